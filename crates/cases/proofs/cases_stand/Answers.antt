@@ -1,0 +1,6 @@
+use mathlib.Core.Path.{refl}
+use Rattle.cases.proofs.Hand.{by-hand}
+use Rattle.cases.proofs.cases_stand.Needs as need
+
+pub returns : need.returns
+returns c = record { stand = by-hand; many = refl }

@@ -1,0 +1,4 @@
+pub mod Outcomes
+pub mod Sides
+mod Cells
+mod Orders

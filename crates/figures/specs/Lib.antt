@@ -1,0 +1,3 @@
+pub mod Float
+pub mod Summary
+pub mod Trail

@@ -1,0 +1,4 @@
+mod Parts
+mod Remainders
+mod Spelled
+mod Table

@@ -1,0 +1,11 @@
+pub mod Layout
+pub mod Steps
+pub mod Chain
+pub mod Records
+pub mod Naming
+pub mod Loaded
+pub mod Shape
+pub mod Follows
+pub mod Sound
+pub mod Refusals
+pub mod Refused

@@ -1,0 +1,83 @@
+// Frames that read, and why others do not.
+use crate::told::Told;
+use crate::told::tell;
+use frame::frame_at;
+use std::test::*;
+
+type Row = ([u8; 8], Told);
+
+const READ: [Row; 5] = [
+    (
+        [0x9c, 0x40, 0x00, 0x00, 0x00, 0x00, 0x00, 0xf9],
+        Ok((40_000, 0, 0)),
+    ),
+    (
+        [0x00, 0x00, 0x9c, 0x40, 0x00, 0x00, 0x00, 0x91],
+        Ok((0, 40_000, 0)),
+    ),
+    (
+        [0x9c, 0x40, 0x9c, 0x40, 0x07, 0x00, 0x00, 0xe8],
+        Ok((40_000, 40_000, 7)),
+    ),
+    (
+        [0x00, 0x05, 0x00, 0x08, 0x00, 0x00, 0x00, 0xd5],
+        Ok((5, 8, 0)),
+    ),
+    (
+        [0x00, 0x00, 0x00, 0x00, 0x00, 0x00, 0x00, 0x0a],
+        Ok((0, 0, 0)),
+    ),
+];
+
+const REFUSED: [Row; 12] = [
+    // The check is wrong in its lowest bit.
+    ([0x00, 0x05, 0x00, 0x08, 0x00, 0x00, 0x00, 0xd4], Err(2)),
+    // Right checks, and a bit that must be zero: bits 3 and 7 of byte 4, bit 0 of byte 5, bits 0 and 7 of byte 6.
+    ([0x00, 0x05, 0x00, 0x08, 0x08, 0x00, 0x00, 0xd9], Err(3)),
+    ([0x00, 0x05, 0x00, 0x08, 0x80, 0x00, 0x00, 0x15], Err(3)),
+    ([0x00, 0x05, 0x00, 0x08, 0x00, 0x01, 0x00, 0x99], Err(3)),
+    ([0x00, 0x05, 0x00, 0x08, 0x00, 0x00, 0x01, 0xc8], Err(3)),
+    ([0x00, 0x05, 0x00, 0x08, 0x00, 0x00, 0x80, 0xf3], Err(3)),
+    // Speeds of 40,001 in front, of 40,001 in the rear, of 65,535 in both.
+    ([0x9c, 0x41, 0x00, 0x00, 0x00, 0x00, 0x00, 0xbf], Err(4)),
+    ([0x00, 0x00, 0x9c, 0x41, 0x00, 0x00, 0x00, 0x0c], Err(4)),
+    ([0xff, 0xff, 0xff, 0xff, 0x00, 0x00, 0x00, 0xbf], Err(4)),
+    // A wrong check comes before a bit that must be zero, and before a speed.
+    ([0x00, 0x05, 0x00, 0x08, 0x00, 0x01, 0x00, 0x19], Err(2)),
+    ([0x9c, 0x41, 0x00, 0x00, 0x00, 0x00, 0x00, 0x40], Err(2)),
+    // A bit that must be zero comes before a speed.
+    ([0x9c, 0x41, 0x00, 0x08, 0x00, 0x01, 0x00, 0x6f], Err(3)),
+];
+
+fn check_rows(rows: &[Row]) -> Result<(), Fail> {
+    for (bytes, told) in rows {
+        check_eq(tell(frame_at(bytes, 0)), *told)?;
+    }
+    Ok(())
+}
+
+#[test]
+fn frames_read() -> Result<(), Fail> {
+    check_rows(&READ)
+}
+
+#[test]
+fn frames_do_not_read() -> Result<(), Fail> {
+    check_rows(&REFUSED)
+}
+
+// Frames of fronts 5 and 7, and a third without its last byte.
+const CUT: &[u8] = b"\0\x05\0\x08\0\0\0\xd5\
+    \0\x07\0\x02\0\0\0\xe2\
+    \0\x05\0\x08\0\0\0";
+
+#[test]
+fn a_cut_frame_is_missing() -> Result<(), Fail> {
+    check_eq(tell(frame_at(CUT, 1)), Ok((7, 2, 0)))?;
+    for rest in 0..8 {
+        let bytes = &CUT[0..16 + rest];
+        check_eq(tell(frame_at(bytes, 2)), Err(1))?;
+    }
+    check_eq(tell(frame_at(CUT, usize::MAX)), Err(1))?;
+    check_eq(tell(frame_at(&[], 0)), Err(1))
+}

@@ -1,0 +1,104 @@
+// Job files, and traces for them, byte by byte. A job file begins with the number of records and the index of the first;
+// each next line is a record. Each line of a trace is a frame.
+
+// Leaves 1 and 2 of one frame each, and fork 3 of both.
+pub const PAIR: &[u8] = b"\0\x03\0\x01\
+    \x01\0\0\x02\0\0\0\0\0\x01\0\0\
+    \x01\0\0\x03\0\0\0\x01\0\x01\0\0\
+    \x02\0\0\0\0\x01\0\x02\0\0\0\0";
+
+// Fronts 5 and 7.
+pub const PAIR_TRACE: &[u8] = b"\0\x05\0\x08\0\0\0\xd5\
+    \0\x07\0\x02\0\0\0\xe2";
+
+// The same frames the other way round, and three bytes more.
+pub const TURNED_TRACE: &[u8] = b"\0\x07\0\x02\0\0\0\xe2\
+    \0\x05\0\x08\0\0\0\xd5\
+    \x01\x02\x03";
+
+// Leaves 1, 2 and 3 of one frame each, fork 4 of 1 and 2, and fork 5 of 4 and 3.
+pub const LEFT_GROUPED: &[u8] = b"\0\x05\0\x01\
+    \x01\0\0\x02\0\0\0\0\0\x01\0\0\
+    \x01\0\0\x03\0\0\0\x01\0\x01\0\0\
+    \x01\0\0\x04\0\0\0\x02\0\x01\0\0\
+    \x02\0\0\x05\0\x01\0\x02\0\0\0\0\
+    \x02\0\0\0\0\x04\0\x03\0\0\0\0";
+
+// The same leaves, fork 4 of 2 and 3, and fork 5 of 1 and 4.
+pub const RIGHT_GROUPED: &[u8] = b"\0\x05\0\x01\
+    \x01\0\0\x02\0\0\0\0\0\x01\0\0\
+    \x01\0\0\x03\0\0\0\x01\0\x01\0\0\
+    \x01\0\0\x04\0\0\0\x02\0\x01\0\0\
+    \x02\0\0\x05\0\x02\0\x03\0\0\0\0\
+    \x02\0\0\0\0\x01\0\x04\0\0\0\0";
+
+// Fronts 4096, 1 and 1.
+pub const GROUPED_TRACE: &[u8] = b"\x10\0\x10\0\0\0\0\x5d\
+    \0\x01\0\x01\0\0\0\xd1\
+    \0\x01\0\x01\0\0\0\xd1";
+
+// Fifteen nodes along the left side, in records out of order; records 7 and 13 are off the chain, and 13 is nonsense.
+pub const LOPSIDED: &[u8] = b"\0\x11\0\x09\
+    \x01\0\0\x11\0\0\0\0\0\x03\0\0\
+    \x02\0\0\x0b\0\x0a\0\x08\0\0\0\0\
+    \x01\0\0\x0e\0\0\0\x04\0\x04\0\0\
+    \x01\0\0\x0f\0\0\0\x0a\0\x05\0\0\
+    \x02\0\0\x0a\0\x0d\0\x06\0\0\0\0\
+    \x01\0\0\x0c\0\0\0\x10\0\x03\0\0\
+    \x01\0\0\x09\0\0\0\0\0\x01\0\0\
+    \x02\0\0\x02\0\x07\0\x09\0\0\0\0\
+    \x01\0\0\x03\0\0\0\x13\0\x02\0\0\
+    \x02\0\0\0\0\x0e\0\x01\0\0\0\0\
+    \x01\0\0\x10\0\0\0\x0f\0\x01\0\0\
+    \x02\0\0\x04\0\x05\0\x02\0\0\0\0\
+    \xff\xff\xff\xff\xff\xff\xff\xff\xff\xff\xff\xff\
+    \x01\0\0\x01\0\0\0\x03\0\x01\0\0\
+    \x01\0\0\x08\0\0\0\x08\0\x02\0\0\
+    \x02\0\0\x05\0\x0b\0\x0c\0\0\0\0\
+    \x02\0\0\x06\0\x04\0\x03\0\0\0\0";
+
+// 21 frames.
+pub const LOPSIDED_TRACE: &[u8] = b"\x13\xb8\x13\xe6\0\0\0\x10\
+    \x13\xb0\x13\xe5\x07\0\0\x2a\
+    \x13\xdf\x13\xa3\x01\0\0\x6f\
+    \x14\x21\x14\x06\0\0\0\x86\
+    \x14\x34\x14\x0f\0\0\0\xd0\
+    \x14\x80\x14\xad\x07\0\0\x9b\
+    \x14\x8d\x14\x7f\x07\0\0\x71\
+    \x14\xa6\x14\x83\0\0\0\x0f\
+    \x14\xdc\x14\xe5\0\0\0\x52\
+    \x15\x18\x15\x2b\x07\0\0\x4e\
+    \x15\x1d\x15\x57\x01\0\0\x21\
+    \x15\x64\x15\x30\0\0\0\xa4\
+    \x15\x8c\x15\xbd\x07\0\0\x86\
+    \x15\xc1\x15\xd2\x01\0\0\x2c\
+    \x15\xda\x15\xef\0\0\0\x57\
+    \x15\xf1\x15\xe4\x01\0\0\x16\
+    \x16\x10\x15\xe5\0\0\0\x7d\
+    \x16\x48\x16\x4e\0\0\0\xd4\
+    \x16\x7a\x16\x4c\0\0\0\x43\
+    \x16\xa7\x16\xa9\x07\0\0\x5c\
+    \x16\xc3\x16\x90\x01\0\0\x4a";
+
+// The same, but for a wrong check of frame 12 and a front of 40,001 in frame 17.
+pub const BROKEN_TRACE: &[u8] = b"\x13\xb8\x13\xe6\0\0\0\x10\
+    \x13\xb0\x13\xe5\x07\0\0\x2a\
+    \x13\xdf\x13\xa3\x01\0\0\x6f\
+    \x14\x21\x14\x06\0\0\0\x86\
+    \x14\x34\x14\x0f\0\0\0\xd0\
+    \x14\x80\x14\xad\x07\0\0\x9b\
+    \x14\x8d\x14\x7f\x07\0\0\x71\
+    \x14\xa6\x14\x83\0\0\0\x0f\
+    \x14\xdc\x14\xe5\0\0\0\x52\
+    \x15\x18\x15\x2b\x07\0\0\x4e\
+    \x15\x1d\x15\x57\x01\0\0\x21\
+    \x15\x64\x15\x30\0\0\0\xa4\
+    \x15\x8c\x15\xbd\x07\0\0\x96\
+    \x15\xc1\x15\xd2\x01\0\0\x2c\
+    \x15\xda\x15\xef\0\0\0\x57\
+    \x15\xf1\x15\xe4\x01\0\0\x16\
+    \x16\x10\x15\xe5\0\0\0\x7d\
+    \x9c\x41\x9c\x36\0\0\0\xb6\
+    \x16\x7a\x16\x4c\0\0\0\x43\
+    \x16\xa7\x16\xa9\x07\0\0\x5c\
+    \x16\xc3\x16\x90\x01\0\0\x4a";

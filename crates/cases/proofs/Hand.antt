@@ -19,6 +19,7 @@ use Rattle.figures.specs.declared.float.Sums.{Sums}
 use Rattle.layout.specs.declared.node.Node.the-variants.{Leaf, Fork}
 use Rattle.evaluate.specs.Evaluates.{Evaluates}
 use Rattle.evaluate.specs.Evaluates.Evaluates.{at-leaf, at-fork}
+use Rattle.evaluate.proofs.Outcomes.{only-outcome}
 use Rattle.cases.specs.Cases.{pair, leftFirst, rightFirst, traceOf, cases, Comes-out}
 
 trail-pair : Evaluates (pair 1 2) (plain (traceOf (5 ∷ 7 ∷ []))) trail 3 (Ok 162)
@@ -112,4 +113,4 @@ right-squares = simp (speed-4096, speed-1, square-4096, square-1, two-ones, two-
 
 pub by-hand : All Comes-out cases
 by-hand =
-    (trail-pair, (trail-exchanged, ((left-sums, left-evaluates, left-squares), ((right-sums, right-evaluates, right-squares), tt))))
+    (only-outcome trail-pair, (only-outcome trail-exchanged, ((left-sums, only-outcome left-evaluates, left-squares), ((right-sums, only-outcome right-evaluates, right-squares), tt))))

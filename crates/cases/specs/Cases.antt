@@ -13,7 +13,7 @@ use Rattle.figures.specs.Trail.{trail}
 use Rattle.figures.specs.declared.float.Sums.{Sums}
 use Rattle.layout.specs.declared.node.Node.{Node}
 use Rattle.layout.specs.declared.node.Node.the-variants.{Leaf, Fork}
-use Rattle.evaluate.specs.Evaluates.{Evaluates}
+use Rattle.evaluate.specs.Evaluates.{Outcome}
 
 -- seven bytes and their check
 abbrev pub checkedBytes : List ℕ → List ℕ
@@ -41,11 +41,11 @@ pub data Case : Type 0 where
   trail-of : List Node → List ℕ → ℕ → Case
   squares-of : List Node → List ℕ → ℕ → Case
 
--- the root's outcome is that trail, or has that sum of squares
+-- the root's one outcome is that trail, or has that sum of squares
 abbrev pub Comes-out : Case → Type 0
-Comes-out (trail-of ns fronts figure) = Evaluates ns (plain (traceOf fronts)) trail (length ns) (Ok figure)
+Comes-out (trail-of ns fronts figure) = Outcome ns (plain (traceOf fronts)) trail (length ns) (Ok figure)
 Comes-out (squares-of ns fronts figure) =
-    (s : Sums) × Evaluates ns (plain (traceOf fronts)) float (length ns) (Ok s) × (s .squares ≡ ofInt binary32 (pos figure))
+    (s : Sums) × Outcome ns (plain (traceOf fronts)) float (length ns) (Ok s) × (s .squares ≡ ofInt binary32 (pos figure))
 
 -- the list
 abbrev pub cases : List Case

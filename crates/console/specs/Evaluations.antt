@@ -52,7 +52,7 @@ sourceOf bytes None = plain bytes
 sourceOf bytes (Some start) = recorded bytes start
 
 -- the report of the nodes that the job's bytes hold, unless memory fails; a refused job is answered by its refusal
-abbrev pub Answered : List ℕ → Frames → Reckoning → Result (String Global) EvaluationError → Type 0
-Answered job source reckoning (Ok s) = (nodes : List Node) × (loaded job ≡ Ok nodes) × ReportedBy reckoning nodes source (string-bytes s)
-Answered job source reckoning (Err (Load refusal)) = loaded job ≡ Err refusal
-Answered job source reckoning (Err Memory) = isOk (loaded job) ≡ true
+abbrev pub TextAnswered : List ℕ → Frames → Reckoning → Result (String Global) EvaluationError → Type 0
+TextAnswered job source reckoning (Ok s) = (nodes : List Node) × (loaded job ≡ Ok nodes) × ReportedBy reckoning nodes source (string-bytes s)
+TextAnswered job source reckoning (Err (Load refusal)) = loaded job ≡ Err refusal
+TextAnswered job source reckoning (Err Memory) = isOk (loaded job) ≡ true

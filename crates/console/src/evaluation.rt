@@ -5,9 +5,10 @@ ghost use lib.ListN.{length};
 ghost use Rattle.std.specs.Of.String.{string-bytes};
 ghost use Rattle.std.specs.Of.Vec.{vec-len};
 ghost use Rattle.std.specs.Vec.{made};
+ghost use Rattle.layout.specs.Loaded.{loaded, contents};
 ghost use Rattle.job.specs.Tables.{nodesOf};
 ghost use Rattle.std.specs.declared.option.Option.the-variants.{Some};
-ghost use Rattle.console.specs.Evaluations.{Reported, ReportedBy, sourceOf, Answered};
+ghost use Rattle.console.specs.Evaluations.{Reported, ReportedBy, sourceOf, TextAnswered};
 ghost use Rattle.console.specs.Reasons.{reasonText};
 ghost use Rattle.console.specs.declared.evaluation.EvaluationError.the-variants.{Memory};
 use crate::command::Reckoning;
@@ -143,7 +144,8 @@ pub fn evaluation_text(
     reckoning: Reckoning,
     start: Option<usize>,
 ) -> Result<String, EvaluationError>
-    ensures { λ r. ⌜ Answered (now (job .entry)) (sourceOf (now (trace .entry)) start) reckoning r ⌝ }
+    ensures answer { λ r. ⌜ TextAnswered (now (job .entry)) (sourceOf (now (trace .entry)) start) reckoning r ⌝ }
+    ensures table { λ _. ⌜ nodesOf (now (table .exit)) ≡ contents (loaded (now (job .entry))) ⌝ }
 {
     match table.load(job) {
         Ok(()) => Ok(read_as(heap, table, trace, reckoning, start)?),

@@ -16,3 +16,4 @@ pub use program::Failed;
 pub use program::run;
 pub use usage::UsageError;
 pub use usage::UsageErrorDisplay;
+pub use usage::help_text;

@@ -7,17 +7,13 @@ use crate::evaluation::EvaluationErrorDisplay;
 use crate::evaluation::evaluation_text;
 use crate::usage::UsageError;
 use crate::usage::UsageErrorDisplay;
+use crate::usage::help_text;
 use job::Table;
 use std::alloc::AllocError;
 use std::env;
 use std::fmt;
 use std::fs;
 use std::io;
-
-const HELP: &str = "\
-satinonyx evaluate JOB TRACE RECKONING [START]  evaluate a job over a trace by trail, summary or float; with START, over a recorder
-satinonyx help                                  list the commands
-";
 
 // The program failed, and said why.
 #[derive(Clone, Copy)]
@@ -105,7 +101,7 @@ fn evaluate_files<'a>(
 fn obey<'a>(rt: &LibcRuntime, words: &'a [String]) -> Result<(), Failure<'a>> {
     match parse(words)? {
         Command::Help => {
-            rt.print(HELP)?;
+            rt.print(help_text())?;
             Ok(())
         }
         Command::Evaluate {
@@ -127,7 +123,10 @@ fn complain<D: fmt::Display + Drop>(rt: &LibcRuntime, reason: D) -> Failed {
 pub fn run(rt: &LibcRuntime) -> Result<(), Failed> {
     let words = match words(rt) {
         Ok(words) => words,
-        Err(error) => return Err(complain(rt, error)),
+        Err(error) => {
+            let _ = eprintln!(rt, "input or output failed: {error}");
+            return Err(Failed);
+        }
     };
     match obey(rt, &words) {
         Ok(()) => Ok(()),

@@ -1,7 +1,7 @@
-// What is wrong with a command line, and what to write instead.
+// The commands, what is wrong with a command line, and what to write instead.
 ghost use mathlib.Core.Path.{_≡_};
 ghost use Rattle.std.specs.declared.option.Option.the-variants.{Some};
-ghost use Rattle.console.specs.Usage.{advice};
+ghost use Rattle.console.specs.Usage.{helpText, advice};
 use std::fmt;
 
 #[derive(Clone, Copy)]
@@ -44,4 +44,11 @@ pub impl fmt::Display for UsageError as UsageErrorDisplay {
     fn fmt<W: fmt::Write>(&self, f: &mut fmt::Formatter<W>) -> fmt::Result {
         f.write_str(self.words())
     }
+}
+
+// The commands, a line each.
+pub fn help_text() -> &'static str
+    ensures { λ r. ⌜ now r ≡ helpText ⌝ }
+{
+    "satinonyx evaluate JOB TRACE RECKONING [START]  evaluate a job over a trace by trail, summary or float; with START, over a recorder\nsatinonyx help                                  list the commands\n"
 }

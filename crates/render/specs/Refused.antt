@@ -10,7 +10,7 @@ use Rattle.layout.specs.declared.refusal.LoadRefusal.the-variants.{Size, Link, 
 -- the reason in words
 abbrev pub inWords : LoadRefusal → List ℕ
 inWords Size = codes "the header or the length of the job file is wrong"
-inWords (Link i) = codes "the link of this record leads nowhere, or back"
+inWords (Link i) = codes "the link of this record (0: of the header) leads nowhere, or back"
 inWords (Content c) = codes "the record of this node has bad content"
 inWords (Naming c) = codes "this fork names a node that it may not name, or no fork names this node"
 

@@ -13,7 +13,7 @@ fn in_words(refusal: LoadRefusal) -> &'static str
 {
     match refusal {
         LoadRefusal::Size => "the header or the length of the job file is wrong",
-        LoadRefusal::Link(_) => "the link of this record leads nowhere, or back",
+        LoadRefusal::Link(_) => "the link of this record (0: of the header) leads nowhere, or back",
         LoadRefusal::Content(_) => "the record of this node has bad content",
         LoadRefusal::Naming(_) =>
             "this fork names a node that it may not name, or no fork names this node",

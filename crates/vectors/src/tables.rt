@@ -4,7 +4,7 @@ use layout::LoadRefusalDebug;
 use std::alloc::Global;
 use std::test::*;
 
-pub fn table_of(heap: Global, job: &[u8]) -> Result<Table, Fail> {
+pub(crate) fn table_of(heap: Global, job: &[u8]) -> Result<Table, Fail> {
     let mut table = Table::new(heap)?;
     table.load(job)?;
     Ok(table)

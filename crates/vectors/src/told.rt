@@ -5,7 +5,7 @@ use frame::Frame;
 // Front, rear and flags of a frame, or the number of the cause.
 pub type Told = Result<(u16, u16, u8), u8>;
 
-pub fn tell(answer: Result<Frame, Cause>) -> Told {
+pub(crate) fn tell(answer: Result<Frame, Cause>) -> Told {
     match answer {
         Ok(frame) => Ok((frame.front, frame.rear, frame.flags)),
         Err(cause) => Err(cause.number),

@@ -1,5 +1,6 @@
 // What is made of a command line.
 use console::Command;
+use console::Reckoning;
 use console::UsageErrorDisplay;
 use console::decimal;
 use console::parse;
@@ -74,7 +75,7 @@ fn a_start(rt: LibcRuntime) -> Result<(), Fail> {
             check_eq(trace, "b.trace")?;
             check_eq(start, Some(7))
         }
-        _ => Err(Fail::new("not an evaluation")),
+        _ => Err(Fail::new("not an evaluation by float")),
     }
 }
 

@@ -1,6 +1,5 @@
-use mathlib.Core.Path.{refl}
 use Rattle.cases.proofs.Hand.{by-hand}
 use Rattle.cases.proofs.cases_stand.Needs as need
 
 pub returns : need.returns
-returns c = record { stand = by-hand; many = refl }
+returns c = record { stand = by-hand; many = c .listed .ensures }

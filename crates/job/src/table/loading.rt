@@ -16,7 +16,7 @@ ghost use Rattle.layout.specs.Refused.{Refused};
 ghost use Rattle.layout.specs.Sound.{allInRange, gave};
 ghost use Rattle.layout.specs.Steps.{mapOk};
 ghost use Rattle.layout.specs.Shape.{nth};
-ghost use Rattle.job.specs.Tables.{nodesOf, parentsOf};
+ghost use Rattle.job.specs.Tables.{nodesOf, parentsOf, ParentOf};
 use super::Table;
 use crate::naming::find_parents;
 use crate::read::count;
@@ -111,10 +111,18 @@ impl Table {
         item(&self.nodes, c)
     }
 
-    // The parent of node `c`.
-    pub fn parent(&self, c: u16) -> Option<Parent>
+    // What is kept of the parent of node `c`.
+    fn kept_parent(&self, c: u16) -> Option<Parent>
         ensures { λ r. ⌜ r ≡ nth (parentsOf (now (self .entry))) c ⌝ }
     {
         item(&self.parents, c)
+    }
+
+    // The fork that names node `c`, and on which side, or that it is the root.
+    pub fn parent(&self, c: u16) -> Option<Parent>
+        ensures value { λ r. ⌜ r ≡ nth (parentsOf (now (self .entry))) c ⌝ }
+        ensures named { λ r. ⌜ ParentOf (nodesOf (now (self .entry))) c r ⌝ }
+    {
+        self.kept_parent(c)
     }
 }

@@ -1,7 +1,7 @@
 -- The cases come out as written.
 use mathlib.Core.Path.{_≡_, refl}
 use mathlib.Core.Bool.{false}
-use mathlib.Core.List.{List, [], _∷_}
+use mathlib.Core.List.{[], _∷_}
 use Prim.Native.Nat.{ℕ}
 use lib.Dec.{T, lit≤}
 use lib.IntN.{pos}
@@ -12,11 +12,9 @@ use Rattle.std.specs.shelf.Lists.{All}
 use Rattle.frame.specs.Crc.{remainder}
 use Rattle.frame.specs.Sources.{plain}
 use Rattle.frame.specs.Speeds.{speeds}
-use Rattle.frame.specs.declared.frame.Frame.{Frame}
 use Rattle.figures.specs.Float.{float, floated, added}
 use Rattle.figures.specs.Trail.{trail}
 use Rattle.figures.specs.declared.float.Sums.{Sums}
-use Rattle.layout.specs.declared.node.Node.the-variants.{Leaf, Fork}
 use Rattle.evaluate.specs.Evaluates.{Evaluates}
 use Rattle.evaluate.specs.Evaluates.Evaluates.{at-leaf, at-fork}
 use Rattle.evaluate.proofs.Outcomes.{only-outcome}

@@ -16,12 +16,11 @@ use Rattle.std.proofs.shelf.Equals.{sameBytes-decides}
 use Rattle.std.proofs.shelf.Tests.{ltb-true, lt-ltb, and-parts, and-from, cond-true, cond-false, cases-bool}
 use Rattle.std.proofs.shelf.Lists.{take-all}
 use Rattle.std.proofs.shelf.Numerals.{parse-plain, numerals-by-value, tells-allDigits}
-use Rattle.std.specs.declared.option.Option.{Option}
 use Rattle.std.specs.declared.option.Option.the-variants.{Some, None}
 use Rattle.std.specs.declared.result.Result.{Result}
 use Rattle.std.specs.declared.result.Result.the-variants.{Ok, Err}
 use Rattle.layout.specs.Steps.{andThen}
-use Rattle.console.specs.Commands.{Asked, help, helpWith, planned, evaluateWith, parsed}
+use Rattle.console.specs.Commands.{help, helpWith, planned, evaluateWith, parsed}
 use Rattle.console.specs.declared.usage.UsageError.the-variants.{NoCommand, UnknownCommand, MissingArgument, SurplusArgument}
 use Rattle.console.specs.declared.usage.UsageError.{UsageError}
 use Rattle.console.specs.Reckonings.{startOf}

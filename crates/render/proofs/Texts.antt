@@ -27,9 +27,6 @@ same-fault e layer node cause frame el ec en ef = rw (el, ec, en, ef) refl
 pub same-refusal : (x : LoadRefusal) (n p : ℕ) (words : List ℕ) → n ≡ number x → p ≡ place x → words ≡ inWords x → Some (refusedWith n p words) ≡ Some (refusalText x)
 same-refusal x n p words en ep ew = rw (en, ep, ew) refl
 
-pub grew-none : (a : List ℕ) → Grew a (Some []) a
-grew-none a = sym (append-nil a)
-
 pub grew-then : (a b d : List ℕ) (o p : Option (List ℕ)) → Grew a o b → Grew b p d → Grew a (then o p) d
 grew-then a b d None p x y = tt
 grew-then a b d (Some s) None x y = tt

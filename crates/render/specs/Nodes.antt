@@ -4,7 +4,7 @@ use mathlib.Core.List.{List, _++_}
 use lib.Chars.{codes}
 use Rattle.std.specs.Written.{decimal, then}
 use Rattle.std.specs.declared.option.Option.{Option}
-use Rattle.std.specs.declared.option.Option.the-variants.{Some, None}
+use Rattle.std.specs.declared.option.Option.the-variants.{Some}
 use Rattle.algebra.specs.declared.cell.Cell.{Cell}
 use Rattle.layout.specs.declared.node.Node.{Node}
 use Rattle.layout.specs.declared.node.Node.the-variants.{Leaf, Fork}

@@ -1,9 +1,7 @@
-use mathlib.Core.Path.{sym, ap, _∙_}
+use mathlib.Core.Path.{sym, _∙_}
 use native.Mathlib.Omega.{arith}
 use borrow.Author.Tests.{ltb-true, ltb-false}
 use Rattle.std.proofs.shelf.Results.{err-from-errBy}
-use Rattle.layout.specs.Steps.{mapOk}
-use Rattle.console.specs.Commands.{asked}
 use Rattle.console.proofs.Words.{evaluate-three, start-refused, start-given, evaluate-missing, evaluate-surplus}
 use Rattle.console.proofs.command.evaluate.Needs as need
 

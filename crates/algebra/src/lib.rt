@@ -1,4 +1,6 @@
 // Value algebras: what a job computes, what a node's cell holds, and the rules of leaves and forks.
+#![tactic(auto)]
+
 mod algebra;
 mod cell;
 mod fault;

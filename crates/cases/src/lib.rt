@@ -1,4 +1,6 @@
 // Rides worked out by hand, each proved to come out as written: one list, one proof.
+#![tactic(auto)]
+
 ghost use Rattle.std.specs.Prelude.{◌≡◌, length};
 ghost use Rattle.std.specs.List.{AllByRecursion as All};
 ghost use Rattle.cases.specs.Cases.{cases, ComesOut};

@@ -1,4 +1,6 @@
 // The commands of the program: what was asked for, and the work that it asks for.
+#![tactic(auto)]
+
 mod command;
 mod evaluation;
 mod number;

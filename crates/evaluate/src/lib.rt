@@ -1,4 +1,6 @@
 // The left-to-right outcome of a job: worked on one processor, and the order in which its nodes are worked.
+#![tactic(auto)]
+
 mod existence;
 mod lookup;
 mod refusal;

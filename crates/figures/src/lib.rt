@@ -1,4 +1,6 @@
 // The value algebras that are shipped: trail, summary and float.
+#![tactic(auto)]
+
 mod float;
 mod summary;
 mod trail;

@@ -1,4 +1,6 @@
 // Frames of wheel speeds, and the sources that they are read from.
+#![tactic(auto)]
+
 mod cause;
 mod crc;
 mod decode;

@@ -1,4 +1,6 @@
 // Tables of jobs, and the loader that reads one from a job file.
+#![tactic(auto)]
+
 mod chain;
 mod naming;
 mod read;

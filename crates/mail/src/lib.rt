@@ -1,4 +1,6 @@
 // Mails: where messages between processors wait until they are taken.
+#![tactic(auto)]
+
 mod mail;
 mod message;
 mod refusal;

@@ -1,4 +1,6 @@
 // Running tests of the mails, worked out by hand, and a mail that holds nothing.
+#![tactic(auto)]
+
 mod shut;
 
 pub use shut::Shut;

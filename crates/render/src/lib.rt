@@ -1,4 +1,6 @@
 // The text of everything that is printed.
+#![tactic(auto)]
+
 mod counted;
 mod evaluation;
 mod fault;

@@ -1,4 +1,6 @@
 // The program on one more stored run: the deepest job.
+#![tactic(auto)]
+
 use console::Failed;
 
 fn main(rt: HostRuntime) -> Result<(), Failed> {

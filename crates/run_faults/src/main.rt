@@ -1,4 +1,6 @@
 // The program on one more stored run: a lopsided job with two bad frames.
+#![tactic(auto)]
+
 use console::Failed;
 
 fn main(rt: HostRuntime) -> Result<(), Failed> {

@@ -1,4 +1,6 @@
 // Evaluates jobs over wheel-speed traces; `satinonyx help` lists the commands.
+#![tactic(auto)]
+
 use console::Failed;
 
 fn main(rt: HostRuntime) -> Result<(), Failed> {

@@ -1,4 +1,6 @@
 // Running tests of the other crates, on published values, values worked out by hand, and bytes that another program made.
+#![tactic(auto)]
+
 #[cfg(test)]
 mod checks;
 #[cfg(test)]

@@ -3,7 +3,7 @@ use Rattle.std.proofs.Common.{◌≡◌, ℕ, zero, suc, ◌+◌, ◌-◌, ◌<�
 use Rattle.std.proofs.ByRecursion.{All-push}
 use Rattle.std.proofs.lemmas.List.{length_push}
 use Rattle.std.proofs.lemmas.Bool.{cases_eq, cases_Bool, eq-eqb, ne_eqb, leb-true, leb-false, le-leb, lt-leb, both_ways, cond-false}
-use Rattle.std.specs.List.{AllByRecursion as All}
+use Rattle.std.specs.List.{AllByRecursion}
 use Rattle.layout.specs.declared.refusal.LoadRefusal.{LoadRefusal}
 use Rattle.layout.specs.declared.refusal.LoadRefusal.TheVariants.{Link}
 use Rattle.layout.specs.Layout.{first, next}
@@ -133,7 +133,7 @@ module _ (b : List ℕ) (m : ℕ) where
       (cases_eq (first b) 0)
 
   -- the walk passes records that are linked
-  through : (left n : ℕ) (xs ys : List ℕ) (i x y : ℕ) → n ≡ length ys + left → Linked b x ys y → All (Index m) ys → Distinct (xs ++ ys) → walk b m n xs i x ≡ walk b m left (xs ++ ys) (final i ys) y
+  through : (left n : ℕ) (xs ys : List ℕ) (i x y : ℕ) → n ≡ length ys + left → Linked b x ys y → AllByRecursion (Index m) ys → Distinct (xs ++ ys) → walk b m n xs i x ≡ walk b m left (xs ++ ys) (final i ys) y
   through left n xs [] i x y is l w d =
       let same : n ≡ left = omega arith in
       ap (λ n. walk b m n xs i x) same ∙ ap (walk b m left xs i) l ∙ ap (λ zs. walk b m left zs i y) (sym (append-nil xs))
@@ -152,7 +152,7 @@ module _ (b : List ℕ) (m : ℕ) where
   pub chain-finds : {xs : List ℕ} → Chained b m xs → chain b m ≡ Ok xs
   chain-finds {xs} c = chain-through c.some c.reached ∙ walk_ends (m - length xs) xs (final 0 xs) 0 refl
 
-  among-low : (y : ℕ) (xs : List ℕ) → All (Index m) xs → among y xs ≡ true → y ≡ 0 → ⊥
+  among-low : (y : ℕ) (xs : List ℕ) → AllByRecursion (Index m) xs → among y xs ≡ true → y ≡ 0 → ⊥
   among-low y [] w h none = both_ways false refl h
   among-low y (x ∷ xs) w h none =
       let other = ne_eqb y x (λ e. omega (arith, w.0.0)) in

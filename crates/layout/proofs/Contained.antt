@@ -2,7 +2,7 @@
 use Rattle.std.proofs.Common.{◌≡◌, ℕ, zero, suc, ◌+◌, ◌-◌, ◌<◌, Bool, true, false, cond, eqb, leb, List, [], ◌∷◌, ◌++◌, length, get_or, Some, None, Ok, Err, Option, sym, refl, ap, ◌∙◌, subst, ⊎_elim, append_assoc, append-nil, arith}
 use Rattle.std.proofs.lemmas.List.{length_push, get_or_default}
 use Rattle.std.proofs.lemmas.Bool.{cases_Bool, eq-eqb, eqb-true, ne_eqb, leb-true, le-leb, cond-true, cond-false}
-use Rattle.std.specs.List.{AllByRecursion as All}
+use Rattle.std.specs.List.{AllByRecursion}
 use Rattle.layout.specs.declared.node.Node.{Node}
 use Rattle.layout.specs.declared.node.Node.TheVariants.{Leaf, Fork}
 use Rattle.layout.specs.declared.refusal.LoadRefusal.{LoadRefusal}
@@ -70,7 +70,7 @@ pub record Reads (b : List ℕ) (ns : List Node) (xs : List ℕ) (out : List Nod
   pub more : List Node
   pub joined : out ≡ ns ++ more
   pub holds : Contents b xs more
-  pub ranged : All Ranged more
+  pub ranged : AllByRecursion Ranged more
   pub long : length more ≡ length xs
 
 added-ok : (ns : List Node) (o : Option Node) (out : List Node) → added ns o ≡ Ok out → (n : Node) × (o ≡ Some n) × (out ≡ ns ++ n ∷ [])
@@ -93,7 +93,7 @@ module _ (b : List ℕ) where
         long = ap suc s.long;
       }
 
-  pub all-reads : (ns : List Node) (xs : List ℕ) (more : List Node) → Contents b xs more → All Ranged more → records b ns xs ≡ Ok (ns ++ more)
+  pub all-reads : (ns : List Node) (xs : List ℕ) (more : List Node) → Contents b xs more → AllByRecursion Ranged more → records b ns xs ≡ Ok (ns ++ more)
   all-reads ns [] [] h k = ap Ok (sym (append-nil ns))
   all-reads ns [] (n ∷ more) h k = absurd h
   all-reads ns (x ∷ xs) [] h k = absurd h
@@ -102,7 +102,7 @@ module _ (b : List ℕ) where
       ∙ all-reads (ns ++ n ∷ []) xs more h.1 k.1 ∙ ap Ok (append_assoc ns (n ∷ []) more)
 
   -- what the record at a place of the chain holds
-  held_at : (xs : List ℕ) (ns : List Node) (i : ℕ) → Contents b xs ns → All Ranged ns → i < length xs → (n : Node) × Holds b (start (get_or xs i 0)) n × Ranged n
+  held_at : (xs : List ℕ) (ns : List Node) (i : ℕ) → Contents b xs ns → AllByRecursion Ranged ns → i < length xs → (n : Node) × Holds b (start (get_or xs i 0)) n × Ranged n
   held_at [] ns i h k lt = absurd (omega arith)
   held_at (x ∷ xs) [] i h k lt = absurd h
   held_at (x ∷ xs) (n ∷ ns) zero h k lt = (n, h.0, k.0)

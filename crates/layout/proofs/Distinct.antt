@@ -1,7 +1,7 @@
 -- Lists of distinct numbers: of the numbers from 1 to m they hold at most m.
 use Rattle.std.proofs.Common.{◌≡◌, ℕ, zero, suc, ◌+◌, ◌≤◌, Bool, true, false, cond, eqb, List, [], ◌∷◌, ◌++◌, length, sym, refl, ap, ◌∙◌, subst, arith}
 use Rattle.std.proofs.lemmas.Bool.{eqb-true, eqb-false, ne_eqb, cond-false, cond_both, true≢false}
-use Rattle.std.specs.List.{AllByRecursion as All}
+use Rattle.std.specs.List.{AllByRecursion}
 use Rattle.layout.specs.Chain.{among}
 use Rattle.layout.specs.Follows.{Index, Distinct}
 
@@ -55,11 +55,11 @@ distinct_without k (x ∷ xs) d =
     let rest = distinct_without k xs d.1 in
     cond_both (eqb k x) (without k xs) (x ∷ without k xs) Distinct (λ _. rest) (λ _. (among-without x k xs d.0, rest))
 
-within-without : (m : ℕ) (xs : List ℕ) → All (Index (suc m)) xs → All (Index m) (without (suc m) xs)
+within-without : (m : ℕ) (xs : List ℕ) → AllByRecursion (Index (suc m)) xs → AllByRecursion (Index m) (without (suc m) xs)
 within-without m [] h = tt
 within-without m (x ∷ xs) h =
     let rest = within-without m xs h.1 in
-    cond_both (eqb (suc m) x) (without (suc m) xs) (x ∷ without (suc m) xs) (All (Index m)) (λ _. rest)
+    cond_both (eqb (suc m) x) (without (suc m) xs) (x ∷ without (suc m) xs) (AllByRecursion (Index m)) (λ _. rest)
     (λ other. let ne = eqb-false (suc m) x other in ((h.0.0, omega (arith, h.0.1)), rest))
 
 absent : (k : ℕ) (xs : List ℕ) → among k xs ≡ false → without k xs ≡ xs
@@ -73,7 +73,7 @@ one_fewer k (x ∷ xs) d =
     (λ same. omega (arith, ap length (absent k xs (subst (λ k. among k xs ≡ false) (sym (eqb-true k x same)) d.0))))
     (λ _. omega (arith, one_fewer k xs d.1))
 
-pub pigeonhole : (m : ℕ) (xs : List ℕ) → All (Index m) xs → Distinct xs → length xs ≤ m
+pub pigeonhole : (m : ℕ) (xs : List ℕ) → AllByRecursion (Index m) xs → Distinct xs → length xs ≤ m
 pigeonhole zero [] h d = omega arith
 pigeonhole zero (x ∷ xs) h d = absurd (omega (arith, h.0.0, h.0.1))
 pigeonhole (suc m) xs h d =

@@ -1,7 +1,7 @@
 -- A file is loaded exactly when it follows the layout, and is refused exactly for the first cause that applies.
 use Rattle.std.proofs.Common.{◌≡◌, ℕ, true, List, [], is_ok, Ok, Err, Result, sym, refl, ap, ◌∙◌, subst, ⊎_elim}
 use Rattle.std.proofs.lemmas.Bool.{false≢true}
-use Rattle.std.specs.List.{AllByRecursion as All}
+use Rattle.std.specs.List.{AllByRecursion}
 use Rattle.layout.specs.declared.node.Node.{Node}
 use Rattle.layout.specs.declared.node.Parent.{Parent}
 use Rattle.layout.specs.declared.refusal.LoadRefusal.{LoadRefusal}
@@ -69,7 +69,7 @@ module _ (b : List ℕ) (sized : WellSized b) where
     by_chain : loaded b ≡ after_chain b xs
     by_chain = by-header ∙ ap (λ r. and_then r (after_chain b)) (chain-finds b (count b) c)
 
-    by-records : (ns : List Node) → Contents b xs ns → All Ranged ns → loaded b ≡ after_records ns
+    by-records : (ns : List Node) → Contents b xs ns → AllByRecursion Ranged ns → loaded b ≡ after_records ns
     by-records ns holds ranged = by_chain ∙ ap (λ r. and_then r after_records) (all-reads b [] xs ns holds ranged)
 
 pub loads : (b : List ℕ) (ns : List Node) → Follows b ns → loaded b ≡ Ok ns
@@ -84,7 +84,7 @@ refused b e h =
     (λ k. let w = header-found b k.0 k.1 in at-chain k.0 w.0 w.1 k.2)
     (one-err (header b) (after_header b) e h)
   where
-    at-naming : (xs : List ℕ) (ns : List Node) → WellSized b → Chained b (count b) xs → Contents b xs ns → All Ranged ns → after_records ns ≡ Err e → Refused b e
+    at-naming : (xs : List ℕ) (ns : List Node) → WellSized b → Chained b (count b) xs → Contents b xs ns → AllByRecursion Ranged ns → after_records ns ≡ Err e → Refused b e
     at-naming xs ns sized c holds ranged k =
         ⊎_elim
         (λ k. let w = parents-refused ns e k in subst (Refused b) (sym w.1) (sized, (xs, ns, c, holds, ranged, w.2)))
@@ -95,7 +95,7 @@ refused b e h =
     at_records xs sized c k =
         ⊎_elim
         (λ k. let w = records-refused b xs e k in subst (Refused b) (sym w.1) (sized, (xs, c, w.2)))
-        (λ k. let r = all_read b [] xs k.0 k.1 in at-naming xs k.0 sized c (found-contents b xs k.0 k.1) (subst (All Ranged) (sym r.joined) r.ranged) k.2)
+        (λ k. let r = all_read b [] xs k.0 k.1 in at-naming xs k.0 sized c (found-contents b xs k.0 k.1) (subst (AllByRecursion Ranged) (sym r.joined) r.ranged) k.2)
         (one-err (records b [] xs) after_records e k)
 
     at-chain : (m : ℕ) → m ≡ count b → WellSized b → after_header b m ≡ Err e → Refused b e

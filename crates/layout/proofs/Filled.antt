@@ -1,7 +1,7 @@
 -- The passes, one after another.
 use Rattle.std.proofs.Common.{◌≡◌, ℕ, ◌+◌, ◌*◌, ◌≤◌, Bool, true, false, cond, leb, List, [], length, IfOk, Ok, Err, Result, sym, refl, ap, ◌∙◌, subst, arith}
 use Rattle.std.proofs.lemmas.Bool.{eq-eqb, eqb-true, leb-true, le-leb, cond-true, false≢true}
-use Rattle.std.specs.List.{AllByRecursion as All}
+use Rattle.std.specs.List.{AllByRecursion}
 use Rattle.layout.specs.declared.node.Node.{Node}
 use Rattle.layout.specs.declared.node.Parent.{Parent}
 use Rattle.layout.specs.declared.refusal.LoadRefusal.{LoadRefusal}
@@ -70,8 +70,8 @@ module _ {b : List ℕ} {m : ℕ} {xs : List ℕ} {ns : List Node} (p : Passed b
       let c = chain-found b m xs p.linked in
       omega (arith, h.0, h.1.counted.1, r.long, ap length r.joined, pigeonhole m xs c.reached.within c.reached.distinct)
 
-  pub passed-ranged : All Ranged ns
-  passed-ranged = let r = all_read b [] xs ns p.read in subst (All Ranged) (sym r.joined) r.ranged
+  pub passed-ranged : AllByRecursion Ranged ns
+  passed-ranged = let r = all_read b [] xs ns p.read in subst (AllByRecursion Ranged) (sym r.joined) r.ranged
 
   pub passed-loaded : loaded b ≡ and_then (parents ns) (λ _. Ok ns)
   passed-loaded =

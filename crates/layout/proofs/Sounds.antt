@@ -1,7 +1,7 @@
 -- The tests that a table keeps say that it has the shape of a job.
 use Rattle.std.proofs.Common.{◌≡◌, ◌+◌, ◌≤◌, Bool, true, false, cond, eqb, leb, List, [], ◌∷◌, length, Ok, Err, Result, refl, ap, ◌∙◌, arith}
 use Rattle.std.proofs.lemmas.Bool.{eq-eqb, eqb-true, leb-true, le-leb, cond-true, false≢true}
-use Rattle.std.specs.List.{AllByRecursion as All}
+use Rattle.std.specs.List.{AllByRecursion}
 use Rattle.layout.specs.declared.node.Node.{Node}
 use Rattle.layout.specs.declared.node.Node.TheVariants.{Leaf, Fork}
 use Rattle.layout.specs.declared.node.Parent.{Parent}
@@ -27,11 +27,11 @@ one-ranged : (n : Node) → Ranged n → in_range n ≡ true
 one-ranged (Leaf a k) h = cond-true _ _ _ (le-leb 1 k h.0) ∙ cond-true _ _ _ (le-leb k 256 h.1) ∙ le-leb (a + k) 4294967296 h.2
 one-ranged (Fork l r) h = refl
 
-pub ranged-all : (ns : List Node) → all_in_range ns ≡ true → All Ranged ns
+pub ranged-all : (ns : List Node) → all_in_range ns ≡ true → AllByRecursion Ranged ns
 ranged-all [] h = tt
 ranged-all (n ∷ ns) h = let p = guarded (in_range n) _ h in (ranged-one n p.0, ranged-all ns p.1)
 
-pub all-ranged : (ns : List Node) → All Ranged ns → all_in_range ns ≡ true
+pub all-ranged : (ns : List Node) → AllByRecursion Ranged ns → all_in_range ns ≡ true
 all-ranged [] h = refl
 all-ranged (n ∷ ns) h = cond-true _ _ _ (one-ranged n h.0) ∙ all-ranged ns h.1
 
@@ -67,7 +67,7 @@ gave-ok (Err e) ps h = absurd (false≢true h)
 pub ok-gave : (r : Result (List Parent) LoadRefusal) (ps : List Parent) → r ≡ Ok ps → gave r ps ≡ true
 ok-gave r ps h = ap (λ r. gave r ps) h ∙ same_self ps
 
-pub shaped : (ns : List Node) (ps : List Parent) → length ns ≤ 1024 → All Ranged ns → parents ns ≡ Ok ps → Shape ns ps
+pub shaped : (ns : List Node) (ps : List Parent) → length ns ≤ 1024 → AllByRecursion Ranged ns → parents ns ≡ Ok ps → Shape ns ps
 shaped ns ps few ranged h =
     let w = wired ns ps h in
     record { few = few; long = w.long; ranged = ranged; forks = w.part.forks; lefts = w.part.lefts; rights = w.part.rights; root = w.root }

@@ -1,6 +1,6 @@
 -- When a file follows the layout of a job.
 use Rattle.std.specs.Prelude.{◌≡◌, ℕ, ◌+◌, ◌*◌, ◌≤◌, false, List, [], ◌∷◌, length, slice_index}
-use Rattle.std.specs.List.{AllByRecursion as All}
+use Rattle.std.specs.List.{AllByRecursion}
 use Rattle.layout.specs.declared.node.Node.{Node}
 use Rattle.layout.specs.declared.node.Node.TheVariants.{Leaf, Fork}
 use Rattle.layout.specs.declared.node.Parent.{Parent}
@@ -43,7 +43,7 @@ pub record WellSized (b : List ℕ) : Type 0 where
 -- the records xs, of m, are reached one after another from the header on, none twice; y is the link of the last (of the header, if none)
 pub record Reached (b : List ℕ) (m : ℕ) (xs : List ℕ) (y : ℕ) : Type 0 where
   pub linked : Linked b (first b) xs y
-  pub within : All (Index m) xs
+  pub within : AllByRecursion (Index m) xs
   pub distinct : Distinct xs
 
 -- xs are the records on the chain, in order: at least one, and the last one's link is 0

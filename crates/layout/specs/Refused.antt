@@ -1,6 +1,6 @@
 -- Which refusal a job file meets, and at which place: the first cause that applies.
 use Rattle.std.specs.Prelude.{◌≡◌, ℕ, ◌<◌, ◌≤◌, true, ◌⊎◌, List, [], ◌∷◌, length}
-use Rattle.std.specs.List.{AllByRecursion as All}
+use Rattle.std.specs.List.{AllByRecursion}
 use Rattle.layout.specs.declared.node.Node.{Node}
 use Rattle.layout.specs.declared.node.Node.TheVariants.{Fork}
 use Rattle.layout.specs.declared.refusal.LoadRefusal.{LoadRefusal}
@@ -55,4 +55,4 @@ Refused b Size = WellSized b → ⊥
 Refused b (Link p) = WellSized b × BadLink b (count b) p
 Refused b (Content c) = WellSized b × ((xs : List ℕ) × Chained b (count b) xs × Lowest (Unreadable b xs) c)
 Refused b (Naming p) =
-    WellSized b × ((xs : List ℕ) × (ns : List Node) × Chained b (count b) xs × Contents b xs ns × All Ranged ns × BadNaming ns p)
+    WellSized b × ((xs : List ℕ) × (ns : List Node) × Chained b (count b) xs × Contents b xs ns × AllByRecursion Ranged ns × BadNaming ns p)

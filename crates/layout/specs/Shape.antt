@@ -1,6 +1,6 @@
 -- The shape of a job: nodes are numbered from 1, and the last is the root.
 use Rattle.std.specs.Prelude.{◌≡◌, ℕ, zero, suc, ◌+◌, ◌-◌, ◌<◌, ◌≤◌, List, [], ◌∷◌, length, Some, None, Option, slice_index_or}
-use Rattle.std.specs.List.{AllByRecursion as All}
+use Rattle.std.specs.List.{AllByRecursion}
 use Rattle.layout.specs.declared.node.Node.{Node}
 use Rattle.layout.specs.declared.node.Node.TheVariants.{Leaf, Fork}
 use Rattle.layout.specs.declared.node.Parent.{Parent}
@@ -28,7 +28,7 @@ Ranged (Fork l r) = Unit {0}
 pub record Shape (ns : List Node) (ps : List Parent) : Type 0 where
   pub few : length ns ≤ 1024
   pub long : length ps ≡ length ns
-  pub ranged : All Ranged ns
+  pub ranged : AllByRecursion Ranged ns
   pub forks : (f l r : ℕ) → Nth ns f (Fork l r) → (l < f) × (r < f) × Nth ps l (LeftOf f) × Nth ps r (RightOf f)
   pub lefts : (c f : ℕ) → Nth ps c (LeftOf f) → (r : ℕ) × Nth ns f (Fork c r)
   pub rights : (c f : ℕ) → Nth ps c (RightOf f) → (l : ℕ) × Nth ns f (Fork l c)

@@ -19,7 +19,7 @@ loop-link-smaller c =
 
 pub loop-link-preserved : goal.loop-link-preserved
 loop-link-preserved c =
-    subst (Sofar _ _ _ _ _ _) (sym (c.short-link-in-loop-link.ensures ∙ ap (λ i. short_at c.args.bytes.now (i + 2)) c.record-start.ensures))
+    subst (Sofar _ _ _ _ _ _) (sym (c.short-link-in-loop-link.ensures ∙ ap (λ i. short_at c.args.bytes.now (i + 2)) c.record_start.ensures))
     (one_more c.loop-link.invariant (omega arith) c.loop-link-test.true c.reach.ensures.value c.if-not-reach.false _ c.reach.ensures.marks)
 
 pub returns : goal.returns

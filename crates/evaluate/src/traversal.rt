@@ -11,7 +11,7 @@ use layout::Node;
 use std::alloc::{AllocError, Global};
 
 // Appends node `c` after all that stands on its sides.
-#[cycle(visit_visit_fork)]
+#[cycle(visiting)]
 fn visit(table: &Table, order: &mut Vec<u16>, c: u16) -> Result<(), AllocError>
     requires low { 1 ≤ c }
     requires high { c ≤ length (nodes_of table.now) }
@@ -27,7 +27,7 @@ fn visit(table: &Table, order: &mut Vec<u16>, c: u16) -> Result<(), AllocError>
 }
 
 // The left side, the right side, then the fork.
-#[cycle(visit_visit_fork)]
+#[cycle(visiting)]
 fn visit_fork(
     table: &Table,
     order: &mut Vec<u16>,

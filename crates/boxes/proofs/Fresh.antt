@@ -5,7 +5,7 @@ use Rattle.std.proofs.lemmas.Bool.{and_parts, cases_eq}
 use Rattle.mail.specs.Messages.{blank}
 use Rattle.boxes.specs.Chains.{next, chain, stacked, pile_of}
 use Rattle.boxes.specs.Inner.{fresh, owner, tight}
-use Rattle.boxes.specs.Piles.{Boxed}
+use Rattle.boxes.proofs.Piles.{Boxed}
 
 -- one more link
 pub fill_more : (xs : List ℕ) (a i v : ℕ) → i < length xs → v ≡ a + i → set (range_with_len a i ++ drop i xs) i v ≡ range_with_len a (suc i) ++ drop (suc i) xs

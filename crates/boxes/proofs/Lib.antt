@@ -1,3 +1,9 @@
+pub mod Runs
+pub mod Searches
+pub mod Moves
+pub mod Boxings
+pub mod Stacks
+pub mod Piles
 pub mod Posts
 pub mod Takes
 pub mod Fresh

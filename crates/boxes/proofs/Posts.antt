@@ -13,10 +13,10 @@ use Rattle.boxes.specs.Inner.{signed, moved}
 use Rattle.boxes.specs.Meaning.{box, pile}
 use Rattle.boxes.specs.declared.boxes.Boxes.{Boxes}
 use Rattle.boxes.specs.declared.boxes.pool.Pool.{Pool}
-use Rattle.boxes.specs.Runs.{Spot, spot-start}
-use Rattle.boxes.specs.Boxings.{spot-next, spot-split, Moved, moves}
-use Rattle.boxes.specs.Stacks.{stacked-change}
-use Rattle.boxes.specs.Piles.{Boxed, length-relinked, one-box, box-fits, free-record}
+use Rattle.boxes.proofs.Runs.{Spot, spot-start}
+use Rattle.boxes.proofs.Boxings.{spot-next, spot-split, Moved, moves}
+use Rattle.boxes.proofs.Stacks.{stacked-change}
+use Rattle.boxes.proofs.Piles.{Boxed, length-relinked, one-box, box-fits, free-record}
 
 composed-parts : (b : Bool) {m n : Message} → Ok m ≡ cond b (Ok n) (Err OutOfRange) → (b ≡ true) × (m ≡ n)
 composed-parts true h = (refl, cc)

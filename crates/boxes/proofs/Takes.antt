@@ -14,11 +14,11 @@ use Rattle.boxes.specs.Inner.{before, sought, moved}
 use Rattle.boxes.specs.Meaning.{box, pile}
 use Rattle.boxes.specs.declared.boxes.Boxes.{Boxes}
 use Rattle.boxes.specs.declared.boxes.pool.Pool.{Pool}
-use Rattle.boxes.specs.Runs.{Spot, spot-start}
-use Rattle.boxes.specs.Searches.{Opens, Found, search-found, first_absent, first-named, without-named}
-use Rattle.boxes.specs.Boxings.{spot_in, spot-begins, spot-next, spot-split, spot-last, Moved, moves}
-use Rattle.boxes.specs.Stacks.{stacked-change}
-use Rattle.boxes.specs.Piles.{Boxed, length-relinked, one-box, pile-first, box-fits}
+use Rattle.boxes.proofs.Runs.{Spot, spot-start}
+use Rattle.boxes.proofs.Searches.{Opens, Found, search-found, first_absent, first-named, without-named}
+use Rattle.boxes.proofs.Boxings.{spot_in, spot-begins, spot-next, spot-split, spot-last, Moved, moves}
+use Rattle.boxes.proofs.Stacks.{stacked-change}
+use Rattle.boxes.proofs.Piles.{Boxed, length-relinked, one-box, pile-first, box-fits}
 
 asked-part : (b : Bool) (u : Unit {0}) → Ok u ≡ cond b (Ok tt) (Err OutOfRange) → b ≡ true
 asked-part true u h = refl

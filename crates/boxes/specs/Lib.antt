@@ -1,10 +1,5 @@
--- What to believe of the boxes, in the order of explaining; Inner is for inner facts and functions only.
+-- What to believe of the boxes, in the order of explaining; Inner is for inner facts and functions only, and Addressed for the law alone.
 pub mod Chains
 pub mod Meaning
 pub mod Inner
-pub mod Piles
-pub mod Runs
-pub mod Boxings
-pub mod Moves
-pub mod Stacks
-pub mod Searches
+pub mod Addressed

@@ -1,3 +1,3 @@
--- What to believe of bridges.
+-- What to believe of bridges; Picks is for the law alone.
 pub mod Bridges
-pub mod Parts
+pub mod Picks

@@ -1,6 +1,6 @@
 -- The first message of a row that passes a test, by its place, and the row without it. Assumes nothing.
 use Rattle.std.proofs.Common.{◌≡◌, ℕ, zero, suc, ◌+◌, ◌-◌, ◌<◌, ◌≤◌, Bool, true, false, List, [], ◌∷◌, length, get_or, take, drop, Some, None, refl, ap, ◌∙◌, arith}
-use lib.Seq.{paste}
+use Rattle.std.proofs.Math.Seq.{paste}
 use Rattle.std.specs.List.{remove}
 use Rattle.std.proofs.lemmas.List.Edits.{take-paste}
 use Rattle.std.proofs.lemmas.List.{take-take, drop-take, length-drop}

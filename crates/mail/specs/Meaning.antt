@@ -1,6 +1,6 @@
 -- What a mail means, and what every mail's meaning obeys.
 use Rattle.std.specs.Prelude.{◌≡◌, ℕ, ◌<◌, ◌≤◌, Bool, true, false, List, length, Some, None, Option}
-use Rattle.std.specs.List.{AllByRecursion as All}
+use Rattle.std.specs.List.{AllByRecursion}
 use Rattle.mail.specs.Messages.{wanted, addressed}
 use Rattle.mail.specs.Collections.{tally, times}
 use Rattle.mail.specs.declared.message.Message.{Message}
@@ -22,6 +22,6 @@ Pickable waits receiver class (Some m) = (wanted receiver class m ≡ true) × (
 -- below the capacity no message is refused, and a take picks what it may
 pub record Lawful (mail : Meaning) : Type 0 where
   pub bounded : mail.capacity ≤ 65535
-  pub ranged : All (λ m. addressed m ≡ true) mail.waits
+  pub ranged : AllByRecursion (λ m. addressed m ≡ true) mail.waits
   pub accepts : (m : Message) → length mail.waits < mail.capacity → mail.refuses m ≡ false
   pub choice : (receiver class : ℕ) → Pickable mail.waits receiver class (mail.picks receiver class)

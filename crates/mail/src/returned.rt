@@ -13,7 +13,7 @@ pub fn post_and_take_back<M: Mail>(
     class: u8,
     node: u16,
 ) -> Result<Message, MailRefusal>
-    ensures { Returned meaning receiver sender class node mail.old mail.new result }
+    ensures { Returned M.meaning receiver sender class node mail.old mail.new result }
 {
     mail.post(receiver, sender, class, node)?;
     match mail.take(receiver, class)? {

@@ -9,7 +9,7 @@ ghost use Rattle.boxes.specs.Inner.{before, sought};
 ghost use Rattle.std.proofs.Common.{arith};
 ghost use Rattle.std.proofs.lemmas.Bool.{lt-leb};
 ghost use Rattle.mail.proofs.Collections.{first-pickable};
-ghost use Rattle.boxes.specs.Piles.{pile-addressed};
+ghost use Rattle.boxes.specs.Addressed.{pile-addressed};
 
 use crate::boxes::Boxes;
 use crate::boxes::pool::{FREE, Pool, RECORDS};

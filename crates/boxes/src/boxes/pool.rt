@@ -56,7 +56,9 @@ impl Pool {
 
     // Puts the message into a free record, at the front of its receiver's chain.
     pub(super) fn put(&mut self, message: Message)
-        requires { (addressed message ≡ true) × ((next self.old.links 64 < 64) × (self.old.count < 64)) }
+        requires between { addressed message ≡ true }
+        requires free { next self.old.links 64 < 64 }
+        requires room { self.old.count < 64 }
         ensures { self.new ≡ moved self.old 64 (64 + message.receiver) message (self.old.count + 1) }
     {
         self.relink(FREE, FREE + message.receiver as usize, message);
@@ -65,7 +67,10 @@ impl Pool {
 
     // Frees the record after the cell, and answers its message.
     pub(super) fn remove(&mut self, cell: usize) -> Message
-        requires { (cell < 81) × (((cell ≢ 64)) × ((next self.old.links cell < 64) × (0 < self.old.count))) }
+        requires within { cell < 81 }
+        requires apart { cell ≢ 64 }
+        requires leads { next self.old.links cell < 64 }
+        requires waits { 0 < self.old.count }
         ensures message { result ≡ held self.old.records (next self.old.links cell) }
         ensures after { self.new ≡ moved self.old cell 64 blank (self.old.count - 1) }
     {
@@ -77,7 +82,10 @@ impl Pool {
 
     // Moves the record after `cell` behind the cell `head`, and gives it that message.
     fn relink(&mut self, cell: usize, head: usize, message: Message)
-        requires { (cell < 81) × ((head < 81) × (((cell ≢ head)) × (next self.old.links cell < 64))) }
+        requires within { cell < 81 }
+        requires onto { head < 81 }
+        requires apart { cell ≢ head }
+        requires leads { next self.old.links cell < 64 }
         ensures { self.new ≡ moved self.old cell head message self.old.count }
     {
         let at = self.links[cell];

@@ -1,5 +1,5 @@
 // The calls of a bridge: a post goes to the receiver's own mail, a take looks in the other one first.
-ghost use Rattle.std.specs.Prelude.{◌≡◌, ◌+◌, min, false, length, is_some, if◌then◌else◌, nat_le};
+ghost use Rattle.std.specs.Prelude.{◌≡◌, ◌+◌, min, false, length, is_some, cond, nat_le};
 ghost use Rattle.std.proofs.Common.{length-append, arith};
 ghost use Rattle.std.specs.Option.{option_or};
 ghost use Rattle.mail.specs.Messages.{message, sendable, askable};
@@ -7,7 +7,7 @@ ghost use Rattle.mail.specs.Mails.{post_answer, Posted, take_answer, Taken};
 ghost use Rattle.bridge.specs.Bridges.{bridge_meaning, Routed, TakenFrom};
 ghost use Rattle.std.proofs.ByRecursion.{All-append};
 ghost use Rattle.std.proofs.lemmas.Bool.{cond_both};
-ghost use Rattle.bridge.specs.Parts.{pickable-sided};
+ghost use Rattle.bridge.specs.Picks.{pickable-sided};
 
 use crate::bridge::Bridge;
 use mail::{Mail, MailRefusal, Message};
@@ -20,7 +20,7 @@ fn take_through<X: Mail, Y: Mail>(
     class: u8,
 ) -> Result<Option<Message>, MailRefusal>
     ensures answer { result ≡ take_answer (askable receiver class) (option_or ((X.Mail.meaning other.old).picks receiver class) ((Y.Mail.meaning own.old).picks receiver class)) }
-    ensures through { if is_some ((X.Mail.meaning other.old).picks receiver class) then (Taken X.Mail.meaning other.old other.new result × (own.new ≡ own.old)) else (Taken Y.Mail.meaning own.old own.new result × (other.new ≡ other.old)) }
+    ensures through { cond (is_some ((X.Mail.meaning other.old).picks receiver class)) (Taken X.Mail.meaning other.old other.new result × (own.new ≡ own.old)) (Taken Y.Mail.meaning own.old own.new result × (other.new ≡ other.old)) }
 {
     match other.take(receiver, class)? {
         Some(message) => Ok(Some(message)),

@@ -9,8 +9,8 @@ pub unreachable-requires : goal.unreachable-requires
 unreachable-requires g c =
     let mail = g.M.Mail.meaning in
     let args = c.args in
-    let sent = c.in-ok-post.ensures in
-    let got = c.in-ok-message.ensures in
+    let sent = c.in_ok-post.ensures in
+    let got = c.in_ok-message.ensures in
     let posted = message args.receiver args.sender args.class args.node in
     let waited = (mail args.mail.now).waits in
     let between = mail c.post.new.self in
@@ -23,8 +23,8 @@ pub returns : goal.returns
 returns g c =
     let mail = g.M.Mail.meaning in
     let args = c.args in
-    let sent = c.in-ok-post.ensures in
-    let got = rw c.in-Some.is at c.in-ok-message.ensures in
+    let sent = c.in_ok-post.ensures in
+    let got = rw c.in-Some.is at c.in_ok-message.ensures in
     let posted = message args.receiver args.sender args.class args.node in
     let m = c.in-Some.message in
     let waited = (mail args.mail.now).waits in

@@ -1,7 +1,7 @@
 use Rattle.std.proofs.Common.{length, sym, ap, ◌∙◌, arith, rules}
 use Rattle.boxes.specs.Chains.{next}
 use Rattle.boxes.specs.Inner.{owner, sought}
-use Rattle.boxes.specs.Searches.{chain_next, tight-next, search-on, search-ends}
+use Rattle.boxes.proofs.Searches.{chain_next, tight-next, search-on, search-ends}
 use Rattle.boxes.proofs.boxes.Boxes.find.Goals as goal
 
 pub loop-cell-smaller : goal.loop-cell-smaller

@@ -1,5 +1,5 @@
 use Rattle.mail.specs.Messages.{message}
-use Rattle.bridge.specs.Parts.{posted-routed}
+use Rattle.bridge.proofs.Parts.{posted-routed}
 use Rattle.bridge.proofs.bridge.calls.BridgeMail.post.Goals as goal
 
 pub returns : goal.returns

@@ -1,4 +1,4 @@
-use Rattle.bridge.specs.Parts.{taken-from}
+use Rattle.bridge.proofs.Parts.{taken-from}
 use Rattle.bridge.proofs.bridge.calls.BridgeMail.take.Goals as goal
 
 pub returns : goal.returns

@@ -1,9 +1,6 @@
 -- Runs: what the links lead through from a cell to an end. Assumes nothing.
-use Rattle.std.specs.Prelude.{◌≡◌, ℕ, zero, suc, ◌<◌, ◌≤◌, true, ltb, ◌⊎◌, List, [], ◌∷◌, ◌++◌, length, drop, ◌==◌, ◌≢◌, nat_lt, slice_index}
-use Rattle.std.proofs.Math.Path.{refl, subst}
-use Rattle.std.proofs.Common.{sym, ap, ◌∙◌, inl, inr, arith, length-drop}
-use Rattle.std.proofs.Math.Logic.{⊎_elim}
-use Rattle.std.specs.List.{AllByRecursion as All}
+use Rattle.std.proofs.Common.{◌≡◌, ℕ, zero, suc, ◌<◌, ◌≤◌, true, ltb, ◌⊎◌, List, [], ◌∷◌, ◌++◌, length, drop, ◌==◌, ◌≢◌, get_or, refl, subst, sym, ap, ◌∙◌, inl, inr, arith, length-drop, ⊎_elim}
+use Rattle.std.specs.List.{AllByRecursion}
 use Rattle.std.proofs.ByRecursion.{All-from_get_or}
 use Rattle.std.proofs.lemmas.Bool.{cond-true, cond-false, lt-ltb, le-ltb, le-leb, leb-true, eq-eqb, eqb-true, and_from, and_parts, cases_lt}
 use Rattle.boxes.specs.Chains.{chain}
@@ -30,7 +27,7 @@ pub record Spot (start : ℕ) (xs : List ℕ) (cell : ℕ) : Type 0 where
 abbrev pub spot-start : (start : ℕ) (xs : List ℕ) → Spot start xs start
 spot-start start xs = record { front = []; back = xs; here = refl; split = refl }
 
-pub all_both : (P Q : ℕ → Type 0) (xs : List ℕ) → All P xs → All Q xs → All (λ y. P y × Q y) xs
+pub all_both : (P Q : ℕ → Type 0) (xs : List ℕ) → AllByRecursion P xs → AllByRecursion Q xs → AllByRecursion (λ y. P y × Q y) xs
 all_both P Q [] p q = tt
 all_both P Q (x ∷ xs) p q = ((p.0, q.0), all_both P Q xs p.1 q.1)
 
@@ -60,8 +57,8 @@ module _ (to of : ℕ → ℕ) (q : ℕ) where
       (λ (lt : to cell < 64).
       let yes : ltb (to cell) 64 ≡ true = lt-ltb (to cell) 64 lt in
       let both = and_parts (of (to cell) == q) (tight to of q n (to cell)) (sym (cond-true _ _ _ yes) ∙ h) in
-      subst (Run to of q cell) (sym (cond-true (nat_lt (to cell) 64) _ _ yes)) (refl, lt, eqb-true _ _ both.0, tight-run n (to cell) both.1))
-      (λ (ge : 64 ≤ to cell). subst (Run to of q cell) (sym (cond-false (nat_lt (to cell) 64) _ _ (le-ltb (to cell) 64 ge))) ge)
+      subst (Run to of q cell) (sym (cond-true (ltb (to cell) 64) _ _ yes)) (refl, lt, eqb-true _ _ both.0, tight-run n (to cell) both.1))
+      (λ (ge : 64 ≤ to cell). subst (Run to of q cell) (sym (cond-false (ltb (to cell) 64) _ _ (le-ltb (to cell) 64 ge))) ge)
       (cases_lt (to cell) 64)
 
   -- links lead one way only
@@ -74,23 +71,23 @@ module _ (to of : ℕ → ℕ) (q : ℕ) where
       let more = run-same xs ys x r.3 (subst (λ z. Run to of q z ys) e s.3) in
       rw (e, more)
 
-  run_drop : (xs : List ℕ) (cell k : ℕ) → k < length xs → Run to of q cell xs → Run to of q (slice_index xs k) (drop (suc k) xs)
+  run_drop : (xs : List ℕ) (cell k : ℕ) → k < length xs → Run to of q cell xs → Run to of q (get_or xs k 0) (drop (suc k) xs)
   run_drop [] cell k h r = absurd (omega arith)
   run_drop (x ∷ xs) cell zero h r = r.3
   run_drop (x ∷ xs) cell (suc k) h r = run_drop xs x k (omega arith) r.3
 
   -- so no run comes back to where it began
-  run-fresh : (xs : List ℕ) (cell : ℕ) → Run to of q cell xs → All (λ x. x ≢ cell) xs
+  run-fresh : (xs : List ℕ) (cell : ℕ) → Run to of q cell xs → AllByRecursion (λ x. x ≢ cell) xs
   run-fresh xs cell r = All-from_get_or (λ x. x ≢ cell) xs 0 (λ k h e.
       let again : Run to of q cell (drop (suc k) xs) = subst (λ z. Run to of q z (drop (suc k) xs)) e (run_drop xs cell k h r) in
       omega (arith, ap length (run-same xs (drop (suc k) xs) cell r again), length-drop (suc k) xs))
 
-  run-owned : (xs : List ℕ) (cell : ℕ) → Run to of q cell xs → All (λ x. (x < 64) × (of x ≡ q)) xs
+  run-owned : (xs : List ℕ) (cell : ℕ) → Run to of q cell xs → AllByRecursion (λ x. (x < 64) × (of x ≡ q)) xs
   run-owned [] cell r = tt
   run-owned (x ∷ xs) cell r = ((r.1, r.2), run-owned xs x r.3)
 
   -- what holds of each record of a run
-  pub run-all : (xs : List ℕ) (cell : ℕ) → Run to of q cell xs → All (λ x. (x ≢ cell) × ((x < 64) × (of x ≡ q))) xs
+  pub run-all : (xs : List ℕ) (cell : ℕ) → Run to of q cell xs → AllByRecursion (λ x. (x ≢ cell) × ((x < 64) × (of x ≡ q))) xs
   run-all xs cell r = all_both (λ x. x ≢ cell) (λ x. (x < 64) × (of x ≡ q)) xs (run-fresh xs cell r) (run-owned xs cell r)
 
   -- a cell on the way is where the run begins, or one of its records
@@ -116,7 +113,7 @@ module _ (to of : ℕ → ℕ) (q : ℕ) where
 
   -- the same records from another cell, along other links
   pub run-from : (to' of' : ℕ → ℕ) (xs : List ℕ) (cell cell' : ℕ) → to' cell' ≡ to cell
-      → All (λ y. (to' y ≡ to y) × (of' y ≡ of y)) xs → Run to of q cell xs → Run to' of' q cell' xs
+      → AllByRecursion (λ y. (to' y ≡ to y) × (of' y ≡ of y)) xs → Run to of q cell xs → Run to' of' q cell' xs
   run-from to' of' [] cell cell' e a r = rw e r
   run-from to' of' (x ∷ xs) cell cell' e a r = (e ∙ r.0, r.1, a.0.1 ∙ r.2, run-from to' of' xs x x a.0.0 a.1 r.3)
 
@@ -129,6 +126,6 @@ pub chain_length : (to : ℕ → ℕ) (n cell : ℕ) → length (chain to n cell
 unfolding chain
 chain_length to zero cell = omega arith
 chain_length to (suc n) cell = ⊎_elim
-    (λ (lt : to cell < 64). rw (cond-true (nat_lt (to cell) 64) (to cell ∷ chain to n (to cell)) [] (lt-ltb (to cell) 64 lt)) (omega (arith, chain_length to n (to cell))))
+    (λ (lt : to cell < 64). rw (cond-true (ltb (to cell) 64) (to cell ∷ chain to n (to cell)) [] (lt-ltb (to cell) 64 lt)) (omega (arith, chain_length to n (to cell))))
     (λ (ge : 64 ≤ to cell). rw (chain-end to (suc n) cell ge) (omega arith))
     (cases_lt (to cell) 64)

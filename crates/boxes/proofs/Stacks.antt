@@ -1,17 +1,13 @@
 -- Boxes that are stacked to a pile. Assumes nothing.
-use Rattle.std.specs.Prelude.{◌≡◌, ℕ, zero, suc, ◌+◌, ◌≤◌, Bool, false, List, [], ◌∷◌, ◌++◌, length, ◌≢◌, refl}
-use Rattle.std.proofs.Common.{sym, ◌∙◌, length-append}
-use Rattle.std.proofs.Math.Path.{ap}
-use Rattle.std.proofs.Math.Logic.{⊎_elim}
-use native.Mathlib.Omega.{arith}
-use Rattle.std.specs.List.{AllByRecursion as All}
-use Rattle.std.proofs.ByRecursion.{All-append}
+use Rattle.std.proofs.Common.{◌≡◌, ℕ, zero, suc, ◌+◌, ◌≤◌, Bool, false, List, [], ◌∷◌, ◌++◌, length, ◌≢◌, refl, sym, ◌∙◌, length-append, ap, ⊎_elim, arith}
+use Rattle.std.specs.List.{AllByRecursion}
 use Rattle.std.proofs.lemmas.Bool.{cases_eq, cond-false}
 use Rattle.mail.specs.Collections.{tally, first}
 use Rattle.mail.specs.declared.message.Message.{Message}
 use Rattle.mail.proofs.Collections.{tally-append}
 use Rattle.boxes.specs.Chains.{stacked}
-use Rattle.boxes.specs.Searches.{first_absent}
+use Rattle.boxes.specs.Addressed.{stacked-all}
+use Rattle.boxes.proofs.Searches.{first_absent}
 
 stacked-same : (f g : ℕ → List Message) (n : ℕ) → ((r : ℕ) → 1 ≤ r → r ≤ n → g r ≡ f r) → stacked g n ≡ stacked f n
 unfolding stacked
@@ -51,23 +47,18 @@ stacked-has f q (suc n) l u = ⊎_elim
     omega (arith, length-append (f (suc n)) (stacked f n), stacked-has f q n l le))
     (cases_eq q (suc n))
 
-pub stacked-all : (P : Message → Type 0) (f : ℕ → List Message) (n : ℕ) → ((r : ℕ) → 1 ≤ r → r ≤ n → All P (f r)) → All P (stacked f n)
-unfolding stacked
-stacked-all P f zero h = tt
-stacked-all P f (suc n) h = All-append P (f (suc n)) (stacked f n) (h (suc n) (omega arith) (omega arith)) (stacked-all P f n (λ r l u. h r l (omega arith)))
-
 -- the first that passes, where all that pass are in one box
 module _ (test : Message → Bool) where
-  first_past : (xs ys : List Message) → All (λ m. test m ≡ false) xs → first test (xs ++ ys) ≡ first test ys
+  first_past : (xs ys : List Message) → AllByRecursion (λ m. test m ≡ false) xs → first test (xs ++ ys) ≡ first test ys
   first_past [] ys none = refl
   first_past (x ∷ xs) ys none = cond-false _ _ _ none.0 ∙ first_past xs ys none.1
 
-  first-before : (xs ys : List Message) → All (λ m. test m ≡ false) ys → first test (xs ++ ys) ≡ first test xs
+  first-before : (xs ys : List Message) → AllByRecursion (λ m. test m ≡ false) ys → first test (xs ++ ys) ≡ first test xs
   first-before [] ys none = first_absent test ys none
   first-before (x ∷ xs) ys none = rw (first-before xs ys none)
 
   pub stacked-first : (f : ℕ → List Message) (q n : ℕ) → 1 ≤ q → q ≤ n
-      → ((r : ℕ) → 1 ≤ r → r ≤ n → (r ≢ q) → All (λ m. test m ≡ false) (f r)) → first test (stacked f n) ≡ first test (f q)
+      → ((r : ℕ) → 1 ≤ r → r ≤ n → (r ≢ q) → AllByRecursion (λ m. test m ≡ false) (f r)) → first test (stacked f n) ≡ first test (f q)
   unfolding stacked
   stacked-first f q zero l u h = absurd (omega arith)
   stacked-first f q (suc n) l u h = ⊎_elim

@@ -1,35 +1,13 @@
 -- A mail that is made of two: what each of them may do, the whole may. Assumes nothing.
-use Rattle.std.specs.Prelude.{◌≡◌, ℕ, min, Bool, true, false, cond, List, [], ◌∷◌, ◌++◌, Some, None, Ok, Err, Option, Result, nat_le, refl}
-use Rattle.std.proofs.Common.{sym, ap, ◌∙◌, arith}
-use Rattle.std.specs.Option.{option_or}
-use Rattle.mail.specs.Collections.{alike}
+use Rattle.std.proofs.Common.{◌≡◌, ℕ, min, Bool, true, false, cond, List, [], ◌∷◌, ◌++◌, Some, None, Ok, Err, Option, Result, nat_le, sym, refl, ap, ◌∙◌, arith}
 use Rattle.mail.specs.Mails.{Posted, Taken}
-use Rattle.mail.specs.Meaning.{Meaning, Pickable}
-use Rattle.mail.specs.Messages.{wanted}
+use Rattle.mail.specs.Meaning.{Meaning}
 use Rattle.mail.specs.declared.message.Message.{Message}
 use Rattle.mail.specs.declared.refusal.MailRefusal.{MailRefusal}
 use Rattle.mail.proofs.Collections.{Tallied, tally-append, tallied-push, same-tallied, tallied-same, removed-tallied, tallied-removed}
+use Rattle.bridge.specs.Picks.{tallied-swap}
 use Rattle.bridge.specs.Bridges.{bridge_meaning, Routed, from_first, TakenFrom}
 use Rattle.bridge.specs.declared.bridge.Bridge.{Bridge}
-
--- two collections in either order
-tallied-swap : (xs ys : List Message) → Tallied (xs ++ ys) (ys ++ xs)
-tallied-swap xs ys test = omega (arith, tally-append test xs ys, tally-append test ys xs)
-
--- what one of them or else the other may pick, both together may
-pickable-append : (xs ys : List Message) (q k : ℕ) (p p' : Option Message) → Pickable xs q k p → Pickable ys q k p' → Pickable (xs ++ ys) q k (option_or p p')
-pickable-append xs ys q k None None h h' = omega (arith, tally-append (wanted q k) xs ys)
-pickable-append xs ys q k None (Some m) h h' = (h'.0, omega (arith, h'.1, tally-append (alike m) xs ys))
-pickable-append xs ys q k (Some m) p' h h' = (h.0, omega (arith, h.1, tally-append (alike m) xs ys))
-
-pickable-swap : (xs ys : List Message) (q k : ℕ) (p : Option Message) → Pickable (xs ++ ys) q k p → Pickable (ys ++ xs) q k p
-pickable-swap xs ys q k None h = tallied-swap ys xs (wanted q k) ∙ h
-pickable-swap xs ys q k (Some m) h = (h.0, omega (arith, h.1, tallied-swap ys xs (alike m)))
-
-pub pickable-sided : (t : Bool) (xs ys : List Message) (q k : ℕ) (p p' : Option Message) → Pickable xs q k p → Pickable ys q k p'
-    → Pickable (xs ++ ys) q k (cond t (option_or p' p) (option_or p p'))
-pickable-sided true xs ys q k p p' h h' = pickable-swap ys xs q k (option_or p' p) (pickable-append ys xs q k p' p h' h)
-pickable-sided false xs ys q k p p' h h' = pickable-append xs ys q k p p' h h'
 
 -- a mail as a part of a greater one: the rest of the messages there, and the other bound on its capacity
 record Part {X Z : Type 0} (means : X → Meaning) (wholes : Z → Meaning) (whole : X → Z) : Type 0 where

@@ -1,7 +1,6 @@
 -- A record that goes from chain a to a place in chain b, with another message. Assumes nothing.
-use Rattle.std.specs.Prelude.{◌≡◌, ℕ, ◌+◌, ◌<◌, ◌≤◌, true, ◌⊎◌, List, [], ◌∷◌, ◌++◌, map, length, ◌≢◌, slice_set, refl}
-use Rattle.std.proofs.Common.{sym, ap, subst, ◌∙◌, inl, inr, ⊎_elim, arith, length-append}
-use Rattle.std.specs.List.{AllByRecursion as All}
+use Rattle.std.proofs.Common.{◌≡◌, ℕ, ◌+◌, ◌<◌, ◌≤◌, true, ◌⊎◌, List, [], ◌∷◌, ◌++◌, map, length, ◌≢◌, set, refl, sym, ap, subst, ◌∙◌, inl, inr, ⊎_elim, arith, length-append}
+use Rattle.std.specs.List.{AllByRecursion}
 use Rattle.std.proofs.ByRecursion.{All-weaker}
 use Rattle.std.proofs.lemmas.List.{append-nil, get_or-set_same, get_or-set_other}
 use Rattle.std.proofs.lemmas.Bool.{cases_eq}
@@ -12,8 +11,8 @@ use Rattle.boxes.specs.Inner.{owner, Tight, signed, moved}
 use Rattle.boxes.specs.Meaning.{box}
 use Rattle.boxes.specs.declared.boxes.Boxes.{Boxes}
 use Rattle.boxes.specs.declared.boxes.pool.Pool.{Pool}
-use Rattle.boxes.specs.Runs.{Run, Spot, run-chain, run-tight, tight-run, run-rest, run-next, run_end, run-cell, run-all, chain_length}
-use Rattle.boxes.specs.Moves.{Relinked, all-mid, cut, put, stay, relinked-cell, relinked-record, relinked-head, relinked-elsewhere}
+use Rattle.boxes.proofs.Runs.{Run, Spot, run-chain, run-tight, tight-run, run-rest, run-next, run_end, run-cell, run-all, chain_length}
+use Rattle.boxes.proofs.Moves.{Relinked, all-mid, cut, put, stay, relinked-cell, relinked-record, relinked-head, relinked-elsewhere}
 
 -- each chain is a run
 pub box-run : (s : Boxes) (q : ℕ) → q ≤ 16 → Run (next s.pool.links) (owner s.pool.records) q (64 + q) (chain_of s.pool q)
@@ -54,17 +53,17 @@ module _ (s : Boxes) (q cell : ℕ) (h : q ≤ 16) (spot : Spot (64 + q) (chain_
   spot-last ge =
       spot.split ∙ ap (λ ys. spot.front ++ ys) (run_end (next s.pool.links) (owner s.pool.records) q spot.back cell ge spot-rest) ∙ append-nil spot.front
 
-map-kept : (records : List Message) (x : ℕ) (m : Message) (xs : List ℕ) → All (λ y. y ≢ x) xs → map (held (slice_set records x m)) xs ≡ map (held records) xs
+map-kept : (records : List Message) (x : ℕ) (m : Message) (xs : List ℕ) → AllByRecursion (λ y. y ≢ x) xs → map (held (set records x m)) xs ≡ map (held records) xs
 map-kept records x m [] h = refl
 map-kept records x m (y ∷ xs) h = rw (get_or-set_other records x y m blank h.0, map-kept records x m xs h.1)
 
-map-put : (records : List Message) (x : ℕ) (m : Message) (front back : List ℕ) → x < length records → All (λ y. y ≢ x) (front ++ back)
-    → map (held (slice_set records x m)) (front ++ x ∷ back) ≡ map (held records) front ++ m ∷ map (held records) back
+map-put : (records : List Message) (x : ℕ) (m : Message) (front back : List ℕ) → x < length records → AllByRecursion (λ y. y ≢ x) (front ++ back)
+    → map (held (set records x m)) (front ++ x ∷ back) ≡ map (held records) front ++ m ∷ map (held records) back
 map-put records x m [] back lt h = rw (get_or-set_same records x m blank lt, map-kept records x m back h)
 map-put records x m (f ∷ front) back lt h = rw (get_or-set_other records x f m blank h.0, map-put records x m front back lt h.1)
 
 -- no record comes twice in a run
-apart_from : (to of : ℕ → ℕ) (q : ℕ) (front back : List ℕ) (cell x : ℕ) → Run to of q cell (front ++ x ∷ back) → All (λ y. y ≢ x) (front ++ back)
+apart_from : (to of : ℕ → ℕ) (q : ℕ) (front back : List ℕ) (cell x : ℕ) → Run to of q cell (front ++ x ∷ back) → AllByRecursion (λ y. y ≢ x) (front ++ back)
 apart_from to of q [] back cell x r =
     All-weaker _ (λ y. y ≢ x) (λ y h. h.0) back (run-all to of q back x r.3)
 apart_from to of q (f ∷ front) back cell x r =
@@ -181,7 +180,7 @@ module _ (s : Boxes) (a b cell head : ℕ) (m : Message) (count : ℕ) (la : a �
   others r lr na nb = run-chain to' of' r (chain_of s.pool r) 64 (64 + r) (chain_length to 64 (64 + r)) (run-other r lr na nb)
 
   -- the record lies in no other box
-  off : (r : ℕ) → r ≤ 16 → (r ≢ a) → All (λ y. y ≢ x) (chain_of s.pool r)
+  off : (r : ℕ) → r ≤ 16 → (r ≢ a) → AllByRecursion (λ y. y ≢ x) (chain_of s.pool r)
   off r lr na = All-weaker _ (λ y. y ≢ x) (λ y h e. na (sym h.1.1 ∙ ap of e ∙ ahead.2))
       (chain_of s.pool r) (run-all to of r (chain_of s.pool r) (64 + r) (box-run s r lr))
 
@@ -195,6 +194,6 @@ module _ (s : Boxes) (a b cell head : ℕ) (m : Message) (count : ℕ) (la : a �
         ∙ map-kept s.pool.records x m (from.front ++ more) (apart_from to of a from.front more (64 + a) x run-a);
     box-onto = ap (map (held pool'.records)) onto-b
         ∙ map-put s.pool.records x m onto.front onto.back (omega (arith, lt, s.sized))
-        (subst (All (λ y. y ≢ x)) onto.split (off b lb (λ e. apart (sym e))));
+        (subst (AllByRecursion (λ y. y ≢ x)) onto.split (off b lb (λ e. apart (sym e))));
     box-other = λ r lr na nb. ap (map (held pool'.records)) (others r lr na nb) ∙ map-kept s.pool.records x m (chain_of s.pool r) (off r lr na);
   }

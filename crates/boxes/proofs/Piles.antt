@@ -1,21 +1,18 @@
 -- All boxes together. Assumes nothing.
-use Rattle.std.specs.Prelude.{◌≡◌, ℕ, ◌+◌, ◌<◌, ◌≤◌, true, false, cond, List, length, ◌==◌, ◌≢◌, nat_eq}
-use Rattle.std.proofs.Common.{sym, ap, subst, ◌∙◌, ⊎_elim, arith}
-use Rattle.std.specs.List.{AllByRecursion as All}
-use Rattle.std.proofs.ByRecursion.{All-map, All-weaker}
+use Rattle.std.proofs.Common.{◌≡◌, ℕ, ◌+◌, ◌<◌, ◌≤◌, true, false, cond, List, length, ◌==◌, ◌≢◌, sym, ap, subst, ◌∙◌, ⊎_elim, arith}
 use Rattle.std.proofs.lemmas.List.{length-set, length-map}
-use Rattle.std.proofs.lemmas.Bool.{cases_eq, cases_lt, and_left, and_from, or_cases, eq-eqb, ne_eqb, eqb-true, le-leb, cond-true, cond-false}
+use Rattle.std.proofs.lemmas.Bool.{cases_eq, cases_lt, and_left, eq-eqb, ne_eqb, cond-true, cond-false}
 use Rattle.mail.specs.Collections.{first}
-use Rattle.mail.specs.Messages.{wanted, addressed}
+use Rattle.mail.specs.Messages.{wanted}
 use Rattle.mail.specs.declared.message.Message.{Message}
 use Rattle.boxes.specs.Chains.{next, held, chain_of, pile_of}
-use Rattle.boxes.specs.Inner.{owner, Tight, signed, relinked}
+use Rattle.boxes.specs.Inner.{Tight, signed, relinked}
 use Rattle.boxes.specs.Meaning.{box, pile}
+use Rattle.boxes.specs.Addressed.{box-all}
 use Rattle.boxes.specs.declared.boxes.Boxes.{Boxes}
 use Rattle.boxes.specs.declared.boxes.pool.Pool.{Pool}
-use Rattle.boxes.specs.Runs.{run-all, chain-end}
-use Rattle.boxes.specs.Boxings.{box-run}
-use Rattle.boxes.specs.Stacks.{stacked-has, stacked-all, stacked-first}
+use Rattle.boxes.proofs.Runs.{chain-end}
+use Rattle.boxes.proofs.Stacks.{stacked-has, stacked-first}
 
 -- what boxes keep, of those that a call leaves
 pub record Boxed (pool : Pool) : Type 0 where
@@ -37,21 +34,10 @@ one-box q now old new here r else = ⊎_elim
     (cases_eq q r)
 
 module _ (s : Boxes) where
-  -- what holds of each message in the box of r
-  box-all : (P : Message → Type 0) (r : ℕ) → r ≤ 16 → ((i : ℕ) → owner s.pool.records i ≡ r → P (held s.pool.records i)) → All P (box s r)
-  box-all P r u h = All-map P (held s.pool.records) (chain_of s.pool r)
-      (All-weaker _ (λ i. P (held s.pool.records i)) (λ i k. h i k.1.1) (chain_of s.pool r)
-      (run-all (next s.pool.links) (owner s.pool.records) r (chain_of s.pool r) (64 + r) (box-run s r u)))
-
-  pub pile-addressed : All (λ m. addressed m ≡ true) (pile s)
-  pile-addressed = stacked-all (λ m. addressed m ≡ true) (box s) 16 (λ r l u. box-all (λ m. addressed m ≡ true) r u (λ i e.
-      and_from _ _ (and_from _ _ (le-leb 1 (owner s.pool.records i) (omega arith)) (le-leb (owner s.pool.records i) 16 (omega arith)))
-      (⊎_elim (λ (z : nat_eq (owner s.pool.records i) 0 ≡ true). absurd (omega (arith, eqb-true _ _ z))) (λ k. k) (or_cases _ _ (s.sent i)))))
-
   -- the first in the pile is the first in the box of its receiver
   pub pile-first : (q class : ℕ) → 1 ≤ q → q ≤ 16 → first (wanted q class) (pile s) ≡ first (wanted q class) (box s q)
   pile-first q class l u = stacked-first (wanted q class) (box s) q 16 l u (λ r l' u' ne.
-      box-all (λ m. wanted q class m ≡ false) r u' (λ i e. and_left _ _ (ne_eqb _ q (λ e'. ne (sym e ∙ e')))))
+      box-all s (λ m. wanted q class m ≡ false) r u' (λ i e. and_left _ _ (ne_eqb _ q (λ e'. ne (sym e ∙ e')))))
 
   -- a box holds no more than the pile
   pub box-fits : (q : ℕ) → 1 ≤ q → q ≤ 16 → length (chain_of s.pool q) ≤ s.pool.count

@@ -1,12 +1,11 @@
 -- A record that goes from within one run to a place within another. Assumes nothing.
-use Rattle.std.specs.Prelude.{◌≡◌, ℕ, ◌<◌, ◌≤◌, ◌⊎◌, List, [], ◌∷◌, ◌++◌, length, ◌≢◌, slice_set}
-use Rattle.std.proofs.Common.{sym, ap, subst, ◌∙◌, ⊎_elim, arith}
-use Rattle.std.specs.List.{AllByRecursion as All}
+use Rattle.std.proofs.Common.{◌≡◌, ℕ, ◌<◌, ◌≤◌, ◌⊎◌, List, [], ◌∷◌, ◌++◌, length, ◌≢◌, set, sym, ap, subst, ◌∙◌, ⊎_elim, arith}
+use Rattle.std.specs.List.{AllByRecursion}
 use Rattle.std.proofs.ByRecursion.{All-weaker}
 use Rattle.std.proofs.lemmas.List.{length-set, get_or-set_same, get_or-set_other}
 use Rattle.boxes.specs.Chains.{next}
 use Rattle.boxes.specs.Inner.{relinked}
-use Rattle.boxes.specs.Runs.{Run, ends, all_both, run-all, run-from}
+use Rattle.boxes.proofs.Runs.{Run, ends, all_both, run-all, run-from}
 
 -- the record x goes from behind `cell` to behind `head`, and then belongs to b
 pub record Relinked (to to' of of' : ℕ → ℕ) (cell x head b : ℕ) : Type 0 where
@@ -17,11 +16,11 @@ pub record Relinked (to to' of of' : ℕ → ℕ) (cell x head b : ℕ) : Type 0
   pub owned : of' x ≡ b
   pub kept : (y : ℕ) → (y ≢ x) → of' y ≡ of y
 
-all-ends : (P : ℕ → Type 0) (f : ℕ) (front rest : List ℕ) → All P (f ∷ (front ++ rest)) → P (ends f front)
+all-ends : (P : ℕ → Type 0) (f : ℕ) (front rest : List ℕ) → AllByRecursion P (f ∷ (front ++ rest)) → P (ends f front)
 all-ends P f [] rest h = h.0
 all-ends P f (g ∷ front) rest h = all-ends P g front rest h.1
 
-pub all-mid : (P : ℕ → Type 0) (front back : List ℕ) (x : ℕ) → All P (front ++ x ∷ back) → P x
+pub all-mid : (P : ℕ → Type 0) (front back : List ℕ) (x : ℕ) → AllByRecursion P (front ++ x ∷ back) → P x
 all-mid P [] back x h = h.0
 all-mid P (f ∷ front) back x h = all-mid P front back x h.1
 
@@ -56,7 +55,7 @@ module _ (to to' of of' : ℕ → ℕ) (a b cell x head : ℕ) (m : Relinked to 
         cut front back f here (off_head a f apart r.1 r.2) r.3,
       )
 
-  agree : (r : ℕ) (xs : List ℕ) → (r ≢ a) → All (λ y. (y ≢ head) × ((y < 64) × (of y ≡ r))) xs → All (λ y. (to' y ≡ to y) × (of' y ≡ of y)) xs
+  agree : (r : ℕ) (xs : List ℕ) → (r ≢ a) → AllByRecursion (λ y. (y ≢ head) × ((y < 64) × (of y ≡ r))) xs → AllByRecursion (λ y. (to' y ≡ to y) × (of' y ≡ of y)) xs
   agree r xs ne all = All-weaker (λ y. (y ≢ head) × ((y < 64) × (of y ≡ r))) (λ y. (to' y ≡ to y) × (of' y ≡ of y))
       (λ y h.
       let off = off_record r y ne h.1.1 in
@@ -94,10 +93,10 @@ module _ (links : List ℕ) (cell head : ℕ) (in_Cell : cell < length links) (i
   x = next links cell
 
   abbrev one : List ℕ
-  one = slice_set links cell (next links x)
+  one = set links cell (next links x)
 
   abbrev two : List ℕ
-  two = slice_set one x (next links head)
+  two = set one x (next links head)
 
   pub relinked-cell : next (relinked links cell head) cell ≡ next links x
   relinked-cell = get_or-set_other two head cell x 0 c_h ∙ get_or-set_other one x cell (next links head) 0 c_x ∙ get_or-set_same links cell (next links x) 0 in_Cell

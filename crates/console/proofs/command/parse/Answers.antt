@@ -8,14 +8,14 @@ returns-in-empty c = sym (asks_nothing _ c.args.words.now (omega (arith, ltb-tru
 pub returns-in-help : goal.returns-in-help
 returns-in-help c =
     let e = first-and-rest c.args.words.now c.command-item.result (omega (arith, ltb-true, ltb-false)) c.command-item.is in
-    c.help.ensures ∙ sym (asks-help _ _ _ _ e (sym c.as-str.ensures.value ∙ c.in-help.is))
+    c.help.ensures ∙ sym (asks-help _ _ _ _ e (sym c.as_str.ensures.value ∙ c.in-help.is))
 
 pub returns-in-evaluate : goal.returns-in-evaluate
 returns-in-evaluate c =
     let e = first-and-rest c.args.words.now c.command-item.result (omega (arith, ltb-true, ltb-false)) c.command-item.is in
-    c.evaluate.ensures ∙ sym (asks-evaluate _ _ _ _ e (sym c.as-str.ensures.value ∙ c.in-evaluate.is))
+    c.evaluate.ensures ∙ sym (asks-evaluate _ _ _ _ e (sym c.as_str.ensures.value ∙ c.in-evaluate.is))
 
-pub returns-in-default : goal.returns-in-default
-returns-in-default c =
+pub returns-in_default : goal.returns-in_default
+returns-in_default c =
     let e = first-and-rest c.args.words.now c.command-item.result (omega (arith, ltb-true, ltb-false)) c.command-item.is in
-    sym (asks-other _ _ _ _ e (λ w. c.in-default.not-help (c.as-str.ensures.value ∙ w)) (λ w. c.in-default.not-evaluate (c.as-str.ensures.value ∙ w)))
+    sym (asks-other _ _ _ _ e (λ w. c.in_default.not-help (c.as_str.ensures.value ∙ w)) (λ w. c.in_default.not-evaluate (c.as_str.ensures.value ∙ w)))

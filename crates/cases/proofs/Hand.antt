@@ -2,7 +2,7 @@
 use Rattle.std.proofs.Common.{◌≡◌, ℕ, false, T, [], ◌∷◌, pos, Ok, refl, lit≤}
 use lib.Ieee.{Float, fin, binary32, of_int, add, mul, sum, round, units, odd, size, span, climb}
 use lib.Count.{count_trailing_zeros}
-use Rattle.std.specs.List.{AllByRecursion as All}
+use Rattle.std.specs.List.{AllByRecursion}
 use Rattle.frame.specs.Crc.{remainder}
 use Rattle.frame.specs.Sources.{plain}
 use Rattle.frame.specs.Speeds.{speeds}
@@ -103,6 +103,6 @@ left-squares = simp (speed-4096, speed-1, square-4096, square-1, one-lost, left-
 right-squares : right-sums.squares ≡ of_int binary32 (pos 16777218)
 right-squares = simp (speed-4096, speed-1, square-4096, square-1, two-ones, two-kept, right-figure)
 
-pub by_hand : All ComesOut cases
+pub by_hand : AllByRecursion ComesOut cases
 by_hand =
     (only-outcome trail-pair, (only-outcome trail-exchanged, ((left-sums, only-outcome left-evaluates, left-squares), ((right-sums, only-outcome right-evaluates, right-squares), tt))))

@@ -2,7 +2,7 @@
 #![tactic(auto)]
 
 ghost use Rattle.std.specs.Prelude.{◌≡◌, length};
-ghost use Rattle.std.specs.List.{AllByRecursion as All};
+ghost use Rattle.std.specs.List.{AllByRecursion};
 ghost use Rattle.cases.specs.Cases.{cases, ComesOut};
 
 // How many cases the list has.
@@ -14,7 +14,7 @@ fn listed() -> usize
 
 // Every case of the list comes out; answers how many there are.
 pub fn cases_stand() -> usize
-    ensures stand { All ComesOut cases }
+    ensures stand { AllByRecursion ComesOut cases }
     ensures many { result ≡ length cases }
 {
     listed()

@@ -64,7 +64,7 @@ fn reported<S: Source, V: Show + Copy, A: ValueAlgebra<Value = V>>(
     algebra: &A,
 ) -> Result<String, AllocError>
     requires { 1 ≤ length (nodes_of table.now) }
-    ensures { IfOk result (λ s. Reported V.Show.text (nodes_of table.now) (frames source.now) (rules algebra.now) (string_bytes s)) }
+    ensures { IfOk result (λ s. Reported V.Show.text (nodes_of table.now) (S.frames source.now) (A.rules algebra.now) (string_bytes s)) }
 {
     let mut cells = blank_cells(heap, table.len() as usize)?;
     match evaluate(table, source, algebra, &mut cells) {
@@ -84,7 +84,7 @@ fn reckoned<S: Source>(
     reckoning: Reckoning,
 ) -> Result<String, AllocError>
     requires { 1 ≤ length (nodes_of table.now) }
-    ensures { IfOk result (λ s. ReportedBy reckoning (nodes_of table.now) (frames source.now) (string_bytes s)) }
+    ensures { IfOk result (λ s. ReportedBy reckoning (nodes_of table.now) (S.frames source.now) (string_bytes s)) }
 {
     match reckoning {
         Reckoning::Trail => reported(heap, table, source, &Trail),

@@ -14,7 +14,7 @@ use std::fmt::Display;
 
 // Adds a piece and the end of its line.
 fn add_line<D: Display + Drop>(text: &mut String, piece: D) -> Result<(), AllocError>
-    ensures { OnOk result (Grew (string_bytes text.old) (line (output piece)) (string_bytes text.new)) }
+    ensures { OnOk result (Grew (string_bytes text.old) (line (D.output piece)) (string_bytes text.new)) }
 {
     match text.writeln(piece) {
         Ok(()) => Ok(()),

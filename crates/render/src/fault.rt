@@ -29,7 +29,7 @@ fn write_fault<W: fmt::Write>(
     node: u16,
     frame: AtFrame,
 ) -> fmt::Result
-    ensures { DisplaysOnOk write_str_gives f.old result (Some (fault_with layer cause node frame.0)) f.new }
+    ensures { DisplaysOnOk W.write_str_gives f.old result (Some (fault_with layer cause node frame.0)) f.new }
 {
     write!(f, "fault layer {layer} cause {cause} node {node}{frame}")
 }

@@ -26,7 +26,7 @@ fn write_refusal<W: fmt::Write>(
     place: u16,
     reason: &str,
 ) -> fmt::Result
-    ensures { DisplaysOnOk write_str_gives f.old result (Some (refused_with number place reason.now)) f.new }
+    ensures { DisplaysOnOk W.write_str_gives f.old result (Some (refused_with number place reason.now)) f.new }
 {
     write!(f, "refused {number} at {place}: {reason}")
 }

@@ -10,7 +10,7 @@ pub trait Show {
     ghost text: { Self → Option (List ℕ) };
 
     fn show<W: fmt::Write>(&self, f: &mut fmt::Formatter<W>) -> fmt::Result
-        ensures { DisplaysOnOk write_str_gives f.old result (text self.now) f.new };
+        ensures { DisplaysOnOk W.write_str_gives f.old result (text self.now) f.new };
 }
 
 #[derive(Clone, Copy)]

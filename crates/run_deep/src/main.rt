@@ -2,7 +2,12 @@
 #![tactic(auto)]
 
 use console::Failed;
+use std::process::ExitCode;
 
-fn main(rt: HostRuntime) -> Result<(), Failed> {
-    console::run(&rt)
+// The failure has been told on standard error by then, as one line.
+fn main(rt: HostRuntime) -> ExitCode {
+    match console::run(&rt) {
+        Ok(()) => ExitCode::SUCCESS,
+        Err(Failed) => ExitCode::FAILURE,
+    }
 }

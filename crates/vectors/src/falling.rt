@@ -3,7 +3,7 @@ use crate::rising::{FALLING, Rising};
 use crate::tables::table_of;
 use algebra::{Cell, Fault};
 use evaluate::evaluate;
-use frame::{Cause, Source, Trace};
+use frame::{Cause, Trace};
 use job::Table;
 use std::process::Abort;
 use std::test::Fail;

@@ -1,5 +1,5 @@
 // What is made of a command line.
-use console::{Command, Reckoning, decimal, parse};
+use console::{Command, decimal, parse};
 use std::alloc::Global;
 use std::test::Fail;
 

@@ -7,5 +7,5 @@ use Rattle.console.proofs.evaluation.reported.Goals as goal
 pub returns : goal.returns
 returns g c =
     let filled = c.in-Ok.ensures.cells in
-    let cells = c.deref-in-Ok.ensures.value ∙ with_items_is c.in-ok-cells.cells c.evaluate.new.cells (filled.size ∙ c.deref-mut.ensures.len) in
-    IfOk-weaker c.report.result _ _ (λ s h. reported _ _ _ _ _ _ _ _ _ _ _ c.count.ensures c.deref.ensures.value c.in-ok-order.ensures cells filled h) c.report.ensures
+    let cells = c.deref-in-Ok.ensures.value ∙ with_items_is c.in_ok-cells.cells c.evaluate.new.cells (filled.size ∙ c.deref_mut.ensures.len) in
+    IfOk-weaker c.report.result _ _ (λ s h. reported _ _ _ _ _ _ _ _ _ _ _ c.count.ensures c.deref.ensures.value c.in_ok-order-in-Ok.ensures cells filled h) c.report.ensures

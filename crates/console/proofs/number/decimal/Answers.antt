@@ -6,4 +6,4 @@ use Rattle.console.proofs.number.decimal.Goals as goal
 
 pub returns : goal.returns
 returns c =
-    c.ok.ensures.value ∙ parsed-decimal c.args.text.now c.parse.result c.parse.ensures.value.0 (λ e. both_ways _ c.if-starts-with.false ((starts_char 43 c.args.text.now _ c.starts-with.ensures.cases (lit< tt) (lit< tt)).1 e))
+    c.ok.ensures.value ∙ parsed-decimal c.args.text.now c.parse.result c.parse.ensures.value.0 (λ e. both_ways _ c.if-starts_with.false ((starts_char 43 c.args.text.now _ c.starts_with.ensures.cases (lit< tt) (lit< tt)).1 e))

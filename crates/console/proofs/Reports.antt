@@ -18,7 +18,7 @@ module _ {V : Type 0} (show : V → Option (List ℕ)) (nodes : List Node) (sour
     cells = cells;
     ordered = o;
     held = f.all;
-    text-is = rw (← ec, ← ex, ← ey) t;
+    text_is = rw (← ec, ← ex, ← ey) t;
   }
 
 some-linked : (b : List ℕ) (x : ℕ) (order : List ℕ) (ns : List Node) → (x ≡ 0 → ⊥) → Linked b x order 0 → Contents b order ns → 1 ≤ length ns

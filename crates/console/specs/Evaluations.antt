@@ -25,7 +25,7 @@ pub record Reported {V : Type 0} (show : V → Option (List ℕ)) (nodes : List 
   pub cells : List (Cell V)
   pub ordered : Ordered nodes order
   pub held : (c : ℕ) → 1 ≤ c → c ≤ length nodes → Holds nodes source rules cells c
-  pub text-is : IfSome (report_text show nodes source.count order cells) (λ bs. text ≡ bs)
+  pub text_is : IfSome (report_text show nodes source.count order cells) (λ bs. text ≡ bs)
 
 -- the same by the rules of each reckoning; of the text of floats nothing is said
 abbrev pub ReportedBy : Reckoning → List Node → Frames → List ℕ → Type 0

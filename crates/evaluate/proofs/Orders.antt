@@ -1,6 +1,6 @@
 -- A job has one left-to-right order, and every node is in it.
 use Rattle.std.proofs.Common.{◌≡◌, ℕ, ◌≤◌, List, [], ◌∷◌, ◌++◌, length, sym, refl, ap, ◌∙◌, subst, arith}
-use Rattle.std.specs.List.{ContainsAt as Has}
+use Rattle.std.specs.List.{ContainsAt}
 use Rattle.std.proofs.ByRecursion.{has_append_left, has_append_right, has_push}
 use Rattle.std.proofs.lemmas.List.{append_assoc}
 use Rattle.layout.specs.Shape.{Nth, Shape}
@@ -28,7 +28,7 @@ module _ {ns : List Node} where
       cc
 
   -- what stands within a node is in its order
-  pub in_order : {c d : ℕ} {xs : List ℕ} → Order ns c xs → Within ns c d → Has xs d
+  pub in_order : {c d : ℕ} {xs : List ℕ} → Order ns c xs → Within ns c d → ContainsAt xs d
   in_order {c} (leaf_alone h) itself = has_push [] c
   in_order (leaf_alone h) (on_left k w) = absurd (leaf-or-fork _ _ _ _ (nth-same h k))
   in_order (leaf_alone h) (on_right k w) = absurd (leaf-or-fork _ _ _ _ (nth-same h k))
@@ -36,12 +36,12 @@ module _ {ns : List Node} where
   in_order {c} {d} (fork_last {l = l} {r = r} {xs = xs} {ys = ys} h u v) (on_left {l = l'} {r = r'} k w) =
       let e : Fork l r ≡ Fork l' r' = nth-same h k in
       let p : l ≡ l' = cc in
-      let inside : Has xs d = in_order u (subst (λ x. Within ns x d) (sym p) w) in
+      let inside : ContainsAt xs d = in_order u (subst (λ x. Within ns x d) (sym p) w) in
       has_append_left (xs ++ ys) (c ∷ []) d (has_append_left xs ys d inside)
   in_order {c} {d} (fork_last {l = l} {r = r} {xs = xs} {ys = ys} h u v) (on_right {l = l'} {r = r'} k w) =
       let e : Fork l r ≡ Fork l' r' = nth-same h k in
       let p : r ≡ r' = cc in
-      let inside : Has ys d = in_order v (subst (λ x. Within ns x d) (sym p) w) in
+      let inside : ContainsAt ys d = in_order v (subst (λ x. Within ns x d) (sym p) w) in
       has_append_left (xs ++ ys) (c ∷ []) d (has_append_right xs ys d inside)
 
   order-low : {c : ℕ} {xs : List ℕ} → Order ns c xs → 1 ≤ c

@@ -1,6 +1,6 @@
 -- The nodes of a job in left-to-right order.
 use Rattle.std.specs.Prelude.{◌≡◌, ℕ, ◌≤◌, List, [], ◌∷◌, ◌++◌, length}
-use Rattle.std.specs.List.{ContainsAt as Has}
+use Rattle.std.specs.List.{ContainsAt}
 use Rattle.layout.specs.Shape.{Nth}
 use Rattle.layout.specs.declared.node.Node.{Node}
 use Rattle.layout.specs.declared.node.Node.TheVariants.{Leaf, Fork}
@@ -29,4 +29,4 @@ pub record Ordered (ns : List Node) (xs : List ℕ) : Type 0 where
   pub empty : length ns ≡ 0 → xs ≡ []
   pub order : 1 ≤ length ns → Order ns (length ns) xs
   pub only : (ys : List ℕ) → Order ns (length ns) ys → ys ≡ xs
-  pub every : (c : ℕ) → 1 ≤ c → c ≤ length ns → Has xs c
+  pub every : (c : ℕ) → 1 ≤ c → c ≤ length ns → ContainsAt xs c

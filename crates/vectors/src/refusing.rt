@@ -8,8 +8,19 @@ use std::test::Fail;
 // The places and values of the bytes that differ from a good job file's, and the number and the place of the refusal.
 type Row = (&'static [(usize, u8)], u8, u16);
 
-// A refusal leaves a table empty that held a job. A message shows the edits that made the bytes.
+// A refusal leaves a table empty that held a job.
 fn check_refused(
+    rt: &impl Abort,
+    table: &mut Table,
+    bytes: &[u8],
+    number: u8,
+    place: u16,
+) -> Result<(), Fail> {
+    check_row(rt, table, bytes, &(&[], number, place))
+}
+
+// The same for the bytes of a row; a message shows its edits.
+fn check_row(
     rt: &impl Abort,
     table: &mut Table,
     bytes: &[u8],
@@ -45,29 +56,26 @@ fn check_rows(rt: &impl Abort, heap: Global, good: &[u8], rows: &[Row]) -> Resul
     let mut table = Table::new(heap)?;
     for row in rows {
         let bytes = edited(heap, good, row.0)?;
-        check_refused(rt, &mut table, &bytes, row)?;
+        check_row(rt, &mut table, &bytes, row)?;
     }
     Ok(())
 }
 
-// Of bytes of a wrong size; no edits made them.
-const SIZE: Row = (&[], 1, 0);
-
 #[test]
 fn sizes(rt: HostRuntime) -> Result<(), Fail> {
     let mut table = Table::new(rt.alloc())?;
-    check_refused(&rt, &mut table, &[], &SIZE)?;
-    check_refused(&rt, &mut table, &PAIR[0..3], &SIZE)?;
-    check_refused(&rt, &mut table, &PAIR[0..4], &SIZE)?;
-    check_refused(&rt, &mut table, &PAIR[0..39], &SIZE)?;
-    check_refused(&rt, &mut table, &[0, 0, 0, 0], &SIZE)?;
-    check_refused(&rt, &mut table, &[0, 0, 0, 1], &SIZE)?;
+    check_refused(&rt, &mut table, &[], 1, 0)?;
+    check_refused(&rt, &mut table, &PAIR[0..3], 1, 0)?;
+    check_refused(&rt, &mut table, &PAIR[0..4], 1, 0)?;
+    check_refused(&rt, &mut table, &PAIR[0..39], 1, 0)?;
+    check_refused(&rt, &mut table, &[0, 0, 0, 0], 1, 0)?;
+    check_refused(&rt, &mut table, &[0, 0, 0, 1], 1, 0)?;
     // One byte too many, and a bad first index.
     let mut long = PAIR.to_vec(rt.alloc())?;
     long.push(0)?;
-    check_refused(&rt, &mut table, &long, &SIZE)?;
+    check_refused(&rt, &mut table, &long, 1, 0)?;
     let long = edited(rt.alloc(), &long, &[(3, 0)])?;
-    check_refused(&rt, &mut table, &long, &SIZE)
+    check_refused(&rt, &mut table, &long, 1, 0)
 }
 
 // Files of 1,024 and of 1,025 records, of which only the first is on the chain.
@@ -84,7 +92,7 @@ fn most_records(rt: HostRuntime) -> Result<(), Fail> {
         &zeros,
         &[(0, 4), (1, 1), (3, 1), (4, 1), (13, 1)],
     )?;
-    check_refused(&rt, &mut table, &more, &SIZE)
+    check_refused(&rt, &mut table, &more, 1, 0)
 }
 
 // Of the pair, whose records begin at bytes 4, 16 and 28. The place of a bad link is the record that holds it.

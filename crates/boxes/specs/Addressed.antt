@@ -36,6 +36,7 @@ module _ (s : Boxes) where
       (All-weaker _ (λ i. P (held s.pool.records i)) h (chain_of s.pool r)
       (chain-owned (next s.pool.links) (owner s.pool.records) r 64 (64 + r) (s.chained r u)))
 
+  -- whatever waits in the boxes is between processors
   pub pile-addressed : AllByRecursion (λ m. addressed m ≡ true) (pile s)
   pile-addressed = stacked-all (λ m. addressed m ≡ true) (box s) 16 (λ r l u. box-all (λ m. addressed m ≡ true) r u (λ i e.
       and_from _ _ (and_from _ _ (le-leb 1 (owner s.pool.records i) (omega arith)) (le-leb (owner s.pool.records i) 16 (omega arith)))

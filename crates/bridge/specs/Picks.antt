@@ -18,10 +18,12 @@ pickable-append xs ys q k None None h h' = omega (arith, tally-append (wanted q 
 pickable-append xs ys q k None (Some m) h h' = (h'.0, omega (arith, h'.1, tally-append (alike m) xs ys))
 pickable-append xs ys q k (Some m) p' h h' = (h.0, omega (arith, h.1, tally-append (alike m) xs ys))
 
+-- what may be picked does not depend on the order
 pickable-swap : (xs ys : List Message) (q k : ℕ) (p : Option Message) → Pickable (xs ++ ys) q k p → Pickable (ys ++ xs) q k p
 pickable-swap xs ys q k None h = tallied-swap ys xs (wanted q k) ∙ h
 pickable-swap xs ys q k (Some m) h = (h.0, omega (arith, h.1, tallied-swap ys xs (alike m)))
 
+-- the same whichever of the two is looked in first
 pub pickable-sided : (t : Bool) (xs ys : List Message) (q k : ℕ) (p p' : Option Message) → Pickable xs q k p → Pickable ys q k p'
     → Pickable (xs ++ ys) q k (cond t (option_or p' p) (option_or p p'))
 pickable-sided true xs ys q k p p' h h' = pickable-swap ys xs q k (option_or p' p) (pickable-append ys xs q k p' p h' h)

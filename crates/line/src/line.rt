@@ -2,8 +2,7 @@
 mod calls;
 
 ghost use Rattle.std.specs.Prelude.{◌≡◌, ℕ, ◌<◌, ◌≤◌, true, length, slice_index_or};
-ghost use Rattle.mail.specs.Messages.{addressed};
-ghost use Rattle.mail.specs.Messages.{blank};
+ghost use Rattle.mail.specs.Messages.{addressed, blank};
 
 use mail::Message;
 

@@ -3,9 +3,8 @@ ghost use Rattle.std.specs.Prelude.{◌≡◌, ℕ, ◌+◌, ◌-◌, ◌<◌, �
 ghost use Rattle.std.proofs.Common.{ap, ◌∙◌, arith};
 ghost use Rattle.std.proofs.Math.Seq.{paste};
 ghost use Rattle.mail.specs.Collections.{first};
-ghost use Rattle.mail.specs.Messages.{addressed, message, sendable, askable, wanted};
+ghost use Rattle.mail.specs.Messages.{addressed, message, sendable, askable, wanted, blank};
 ghost use Rattle.mail.specs.Mails.{post_answer, Posted, take_answer, Taken};
-ghost use Rattle.mail.specs.Messages.{blank};
 ghost use Rattle.line.specs.Lines.{row, is_full, line_meaning, after_post, after_take};
 ghost use Rattle.std.proofs.ByRecursion.{All-from_get_or};
 ghost use Rattle.std.proofs.lemmas.List.{get_or-take, length-take-le};

@@ -1,6 +1,5 @@
 use Rattle.std.proofs.Common.{◌≡◌, ℕ, ◌<◌, false, get_or}
-use Rattle.mail.specs.Messages.{wanted}
-use Rattle.mail.specs.Messages.{blank}
+use Rattle.mail.specs.Messages.{wanted, blank}
 use Rattle.line.proofs.line.Line.find.Given as goal
 
 abbrev pub invariant-loop-i : goal.invariant-loop-i

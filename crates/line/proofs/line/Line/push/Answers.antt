@@ -1,8 +1,7 @@
 use Rattle.std.proofs.Common.{ℕ, ◌<◌, ap, ◌∙◌, arith, rules, below_more}
 use Rattle.std.proofs.Math.ListN.{length-set}
 use Rattle.std.proofs.lemmas.List.{take_more_set, get_or-set_same, get_or-set_other}
-use Rattle.mail.specs.Messages.{addressed}
-use Rattle.mail.specs.Messages.{blank}
+use Rattle.mail.specs.Messages.{addressed, blank}
 use Rattle.line.proofs.line.Line.push.Goals as goal
 
 pub invariant_of-self : goal.invariant_of-self

@@ -1,8 +1,7 @@
 use Rattle.std.proofs.Common.{◌≡◌, ◌-◌, get_or, take, sym, refl, ap, ◌∙◌, arith, rules}
 use Rattle.mail.specs.Collections.{without, alike, times, part}
-use Rattle.mail.specs.Messages.{wanted}
+use Rattle.mail.specs.Messages.{wanted, blank}
 use Rattle.mail.proofs.Collections.{first_some, first-none, times-one, without-first}
-use Rattle.mail.specs.Messages.{blank}
 use Rattle.line.specs.Lines.{row}
 use Rattle.line.proofs.Rows.{first-at, first_past, closed}
 use Rattle.line.proofs.line.calls.LineMail.take.Goals as goal

@@ -1,199 +1,146 @@
--- A record that goes from chain a to a place in chain b, with another message. Assumes nothing.
-use Rattle.std.proofs.Common.{◌≡◌, ℕ, ◌+◌, ◌<◌, ◌≤◌, true, ◌⊎◌, List, [], ◌∷◌, ◌++◌, map, length, ◌≢◌, set, refl, sym, ap, subst, ◌∙◌, inl, inr, ⊎_elim, arith, length-append}
-use Rattle.std.specs.List.{AllByRecursion}
-use Rattle.std.proofs.ByRecursion.{All-weaker}
-use Rattle.std.proofs.lemmas.List.{append-nil, get_or-set_same, get_or-set_other}
-use Rattle.std.proofs.lemmas.Bool.{cases_eq}
+-- A record that goes from chain a to the front of chain b, and then holds something else.
+use Rattle.std.proofs.Common.{true, false, not, ◌≡◌, ℕ, ◌+◌, ◌<◌, ◌≤◌, true, List, [], ◌∷◌, ◌++◌, filter_map, length, ◌≢◌, Option, None, set, refl, sym, ap, subst, ◌∙◌, ⊎_elim, arith, length-append}
+use Rattle.std.specs.List.{AllPass, AllByRecursion, cons_option}
+use Rattle.std.proofs.lemmas.List.{length-set, get_or-set_same, get_or-set_other}
+use Rattle.std.proofs.lemmas.List.Elements.{All-nil, All-cons, All-head, All-tail}
+use Rattle.std.proofs.lemmas.Bool.{cases_eq, cases_Bool}
+use Rattle.mail.specs.Collections.{tally}
+use Rattle.mail.specs.Messages.{addressed}
 use Rattle.mail.specs.declared.message.Message.{Message}
-use Rattle.mail.specs.Messages.{blank}
-use Rattle.boxes.specs.Chains.{next, held, chain_of, box_of}
-use Rattle.boxes.specs.Inner.{owner, Tight, signed, moved}
+use Rattle.mail.proofs.Collections.{tally-cons}
+use Rattle.boxes.specs.Chains.{next, held, chain_of, box_of, pile_of}
+use Rattle.boxes.specs.Inner.{receiver_of, owner, Tight, moved}
 use Rattle.boxes.specs.Meaning.{box}
 use Rattle.boxes.specs.declared.boxes.Boxes.{Boxes}
 use Rattle.boxes.specs.declared.boxes.pool.Pool.{Pool}
-use Rattle.boxes.proofs.Runs.{Run, Spot, run-chain, run-tight, tight-run, run-rest, run-next, run_end, run-cell, run-all, chain_length}
-use Rattle.boxes.proofs.Moves.{Relinked, all-mid, cut, put, stay, relinked-cell, relinked-record, relinked-head, relinked-elsewhere}
+use Rattle.boxes.proofs.Runs.{Run, Led, run-kept, tight-run, run-led, chain_length}
+use Rattle.boxes.proofs.Moves.{Relinked, others, joined, cut, relinked-moves}
+use Rattle.boxes.proofs.Searches.{Spot}
 
 -- each chain is a run
-pub box-run : (s : Boxes) (q : ℕ) → q ≤ 16 → Run (next s.pool.links) (owner s.pool.records) q (64 + q) (chain_of s.pool q)
-box-run s q h = tight-run (next s.pool.links) (owner s.pool.records) q 64 (64 + q) (s.chained q h)
+pub box-run : (s : Boxes) (q : ℕ) → q ≤ 16 → Run (next s.pool.links) (owner s.pool.records) q (next s.pool.links (64 + q)) (chain_of s.pool q)
+box-run s q h = tight-run (next s.pool.links) (owner s.pool.records) q 64 (next s.pool.links (64 + q)) (s.chained q h)
 
--- a cell of chain q
-module _ (s : Boxes) (q cell : ℕ) (h : q ≤ 16) (spot : Spot (64 + q) (chain_of s.pool q) cell) where
-  spot-run : Run (next s.pool.links) (owner s.pool.records) q (64 + q) (spot.front ++ spot.back)
-  spot-run = subst (Run (next s.pool.links) (owner s.pool.records) q (64 + q)) spot.split (box-run s q h)
+-- and each record of it has its cell
+module _ (s : Boxes) (q cell x : ℕ) (h : q ≤ 16) (spot : Spot (64 + q) (chain_of s.pool q) cell x) where
+  spot-run : Run (next s.pool.links) (owner s.pool.records) q (next s.pool.links (64 + q)) (spot.front ++ x ∷ spot.back)
+  spot-run = subst (Run (next s.pool.links) (owner s.pool.records) q (next s.pool.links (64 + q))) spot.split (box-run s q h)
 
-  spot-near : (cell ≡ 64 + q) ⊎ ((cell < 64) × (owner s.pool.records cell ≡ q))
-  spot-near = subst (λ c. (c ≡ 64 + q) ⊎ ((c < 64) × (owner s.pool.records c ≡ q))) (sym spot.here)
-      (run-cell (next s.pool.links) (owner s.pool.records) q spot.front spot.back (64 + q) spot-run)
+  pub spot-led : Led (next s.pool.links) (owner s.pool.records) q (64 + q) cell x
+  spot-led = run-led (next s.pool.links) (owner s.pool.records) q spot.front spot.back (64 + q) cell x spot.here spot-run
 
-  pub spot_in : cell < 81
-  spot_in = ⊎_elim (λ (e : cell ≡ 64 + q). omega arith) (λ (c : (cell < 64) × (owner s.pool.records cell ≡ q)). omega arith) spot-near
+-- records other than x hold what they held
+map-kept : (records : List (Option Message)) (x : ℕ) (o : Option Message) (xs : List ℕ) → AllByRecursion (λ y. y ≢ x) xs
+    → filter_map (held (set records x o)) xs ≡ filter_map (held records) xs
+map-kept records x o [] h = refl
+map-kept records x o (y ∷ xs) h = rw (get_or-set_other records x y o None h.0, map-kept records x o xs h.1)
 
-  spot-far : (64 ≤ cell) ⊎ (owner s.pool.records cell ≡ q)
-  spot-far = ⊎_elim (λ (e : cell ≡ 64 + q). inl (omega arith)) (λ c. inr c.1) spot-near
+-- a record of another lies in no run
+elsewhere : (to : ℕ → Option ℕ) (of : ℕ → ℕ) (q : ℕ) (xs : List ℕ) (link : Option ℕ) (x : ℕ) → (of x ≢ q) → Run to of q link xs → AllByRecursion (λ y. y ≢ x) xs
+elsewhere to of q [] link x ne r = tt
+elsewhere to of q (y ∷ ys) link x ne r = (λ e. ne (ap of (sym e) ∙ r.2), elsewhere to of q ys (to y) x ne r.3)
 
-  -- it begins no other chain
-  pub spot-begins : (r : ℕ) → (r ≢ q) → 64 + r ≢ cell
-  spot-begins r ne e = ⊎_elim (λ (c : cell ≡ 64 + q). ne (omega arith)) (λ (c : (cell < 64) × (owner s.pool.records cell ≡ q)). omega arith) spot-near
+-- what boxes keep, of those that a call leaves
+pub record Boxed (pool : Pool) : Type 0 where
+  pub sized : length pool.records ≡ 64
+  pub linked : length pool.links ≡ 81
+  pub chained : (q : ℕ) → q ≤ 16 → Tight pool q
+  pub sent : AllPass addressed (pile_of pool)
+  pub counted : length (pile_of pool) ≡ pool.count
+  pub spare : length (chain_of pool 0) + pool.count ≡ 64
 
-  spot-rest : Run (next s.pool.links) (owner s.pool.records) q cell spot.back
-  spot-rest = subst (λ c. Run (next s.pool.links) (owner s.pool.records) q c spot.back) (sym spot.here)
-      (run-rest (next s.pool.links) (owner s.pool.records) q spot.front spot.back (64 + q) spot-run)
+-- all are between processors where none is not
+abbrev pub Between : Message → Type 0
+Between m = addressed m ≡ true
 
-  pub spot-next : next s.pool.links cell < 64
-      → (more : List ℕ) × (spot.back ≡ next s.pool.links cell ∷ more) × Run (next s.pool.links) (owner s.pool.records) q (next s.pool.links cell) more
-  spot-next lt = run-next (next s.pool.links) (owner s.pool.records) q spot.back cell lt spot-rest
+pub none_unaddressed : (ms : List Message) → AllPass addressed ms → tally (λ m. not (addressed m)) ms ≡ 0
+none_unaddressed [] h = refl
+none_unaddressed (m ∷ ms) h = rw (All-head Between m ms h) (omega (arith, none_unaddressed ms (All-tail Between m ms h), tally-cons (λ z. not (addressed z)) m ms))
 
-  pub spot-split : (lt : next s.pool.links cell < 64) → chain_of s.pool q ≡ spot.front ++ next s.pool.links cell ∷ (spot-next lt).0
-  spot-split lt = spot.split ∙ ap (λ ys. spot.front ++ ys) (spot-next lt).1
+each-addressed : (ms : List Message) → tally (λ m. not (addressed m)) ms ≡ 0 → AllPass addressed ms
+each-addressed [] h = All-nil Between
+each-addressed (m ∷ ms) h = ⊎_elim
+    (λ (t : addressed m ≡ true). All-cons Between m ms t (each-addressed ms (omega (arith, h, tally-cons (λ z. not (addressed z)) m ms))))
+    (λ (f : addressed m ≡ false). absurd (grind (arith, f, h, tally-cons (λ z. not (addressed z)) m ms)))
+    (cases_Bool (addressed m))
 
-  -- the chain's last cell
-  pub spot-last : 64 ≤ next s.pool.links cell → chain_of s.pool q ≡ spot.front
-  spot-last ge =
-      spot.split ∙ ap (λ ys. spot.front ++ ys) (run_end (next s.pool.links) (owner s.pool.records) q spot.back cell ge spot-rest) ∙ append-nil spot.front
-
-map-kept : (records : List Message) (x : ℕ) (m : Message) (xs : List ℕ) → AllByRecursion (λ y. y ≢ x) xs → map (held (set records x m)) xs ≡ map (held records) xs
-map-kept records x m [] h = refl
-map-kept records x m (y ∷ xs) h = rw (get_or-set_other records x y m blank h.0, map-kept records x m xs h.1)
-
-map-put : (records : List Message) (x : ℕ) (m : Message) (front back : List ℕ) → x < length records → AllByRecursion (λ y. y ≢ x) (front ++ back)
-    → map (held (set records x m)) (front ++ x ∷ back) ≡ map (held records) front ++ m ∷ map (held records) back
-map-put records x m [] back lt h = rw (get_or-set_same records x m blank lt, map-kept records x m back h)
-map-put records x m (f ∷ front) back lt h = rw (get_or-set_other records x f m blank h.0, map-put records x m front back lt h.1)
-
--- no record comes twice in a run
-apart_from : (to of : ℕ → ℕ) (q : ℕ) (front back : List ℕ) (cell x : ℕ) → Run to of q cell (front ++ x ∷ back) → AllByRecursion (λ y. y ≢ x) (front ++ back)
-apart_from to of q [] back cell x r =
-    All-weaker _ (λ y. y ≢ x) (λ y h. h.0) back (run-all to of q back x r.3)
-apart_from to of q (f ∷ front) back cell x r =
-    let later = run-all to of q (front ++ x ∷ back) f r.3 in
-    (λ e. (all-mid (λ y. (y ≢ f) × ((y < 64) × (of y ≡ q))) front back x later).0 (sym e), apart_from to of q front back f x r.3)
-
--- what is left when the record after `cell` in chain a, `more` behind it, went behind `head` in chain b
-pub record Moved (s : Boxes) (a b : ℕ) (m : Message) (pool' : Pool) (more : List ℕ) (cell head : ℕ)
-    (from : Spot (64 + a) (chain_of s.pool a) cell) (onto : Spot (64 + b) (chain_of s.pool b) head) : Type 0 where
-  pub chained : (r : ℕ) → r ≤ 16 → Tight pool' r
-  pub sent : signed m ≡ true → (i : ℕ) → signed (held pool'.records i) ≡ true
-  pub chain-from : chain_of pool' a ≡ from.front ++ more
-  pub chain-onto : chain_of pool' b ≡ onto.front ++ next s.pool.links cell ∷ onto.back
-  pub box-from : box_of pool' a ≡ map (held s.pool.records) (from.front ++ more)
-  pub box-onto : box_of pool' b ≡ map (held s.pool.records) onto.front ++ m ∷ map (held s.pool.records) onto.back
+-- what is left when the record x after `cell` went from chain a to the front of chain b, and then holds o
+pub record Moved (s : Boxes) (a b : ℕ) (o : Option Message) (pool' : Pool) (cell x : ℕ) (from : Spot (64 + a) (chain_of s.pool a) cell x) : Type 0 where
+  pub boxed : tally (λ m. not (addressed m)) (pile_of pool') ≡ 0 → length (pile_of pool') ≡ pool'.count → length (chain_of pool' 0) + pool'.count ≡ 64 → Boxed pool'
+  pub chain-from : chain_of pool' a ≡ from.front ++ from.back
+  pub chain-onto : chain_of pool' b ≡ x ∷ chain_of s.pool b
+  pub box-from : box_of pool' a ≡ filter_map (held s.pool.records) (from.front ++ from.back)
+  pub box-onto : box_of pool' b ≡ cons_option o (box s b)
   pub box-other : (r : ℕ) → r ≤ 16 → (r ≢ a) → (r ≢ b) → box_of pool' r ≡ box s r
 
-module _ (s : Boxes) (a b cell head : ℕ) (m : Message) (count : ℕ) (la : a ≤ 16) (lb : b ≤ 16) (apart : a ≡ b → ⊥) (mine : m.receiver ≡ b)
-    (from : Spot (64 + a) (chain_of s.pool a) cell) (lt : next s.pool.links cell < 64) (onto : Spot (64 + b) (chain_of s.pool b) head)
-    (fits : length (chain_of s.pool b) < 64) where
-  abbrev x : ℕ
-  x = next s.pool.links cell
-
+module _ (s : Boxes) (a b cell x : ℕ) (o : Option Message) (count : ℕ) (la : a ≤ 16) (lb : b ≤ 16) (apart : a ≡ b → ⊥) (mine : receiver_of o ≡ b)
+    (from : Spot (64 + a) (chain_of s.pool a) cell x) (fits : length (chain_of s.pool b) < 64) where
   abbrev pool' : Pool
-  pool' = moved s.pool cell head m count
+  pool' = moved s.pool cell x (64 + b) o count
 
-  abbrev to : ℕ → ℕ
+  abbrev to : ℕ → Option ℕ
   to = next s.pool.links
 
   abbrev of : ℕ → ℕ
   of = owner s.pool.records
 
-  abbrev to' : ℕ → ℕ
+  abbrev to' : ℕ → Option ℕ
   to' = next pool'.links
 
   abbrev of' : ℕ → ℕ
   of' = owner pool'.records
 
-  abbrev more : List ℕ
-  more = (spot-next s a cell la from lt).0
+  led : Led to of a (64 + a) cell x
+  led = spot-led s a cell x la from
 
-  ahead : Run to of a cell (x ∷ more)
-  ahead = subst (Run to of a cell) (spot-next s a cell la from lt).1 (spot-rest s a cell la from)
+  run-a : Run to of a (to (64 + a)) (from.front ++ x ∷ from.back)
+  run-a = spot-run s a cell x la from
 
-  run-a : Run to of a (64 + a) (from.front ++ x ∷ more)
-  run-a = subst (Run to of a (64 + a)) (spot-split s a cell la from lt) (box-run s a la)
+  same : held pool'.records x ≡ o
+  same = get_or-set_same s.pool.records x o None (omega (arith, led.lt, s.sized))
 
-  cell-head : cell ≡ head → ⊥
-  cell-head e = ⊎_elim
-      (λ (c : cell ≡ 64 + a). spot-begins s b head lb onto a apart (omega arith))
-      (λ (c : (cell < 64) × (of cell ≡ a)). ⊎_elim (λ (far : 64 ≤ head). omega arith) (λ (h : of head ≡ b). apart (sym c.1 ∙ ap of e ∙ h)) (spot-far s b head lb onto))
-      (spot-near s a cell la from)
+  other : (y : ℕ) → (y ≢ x) → held pool'.records y ≡ held s.pool.records y
+  other y ne = get_or-set_other s.pool.records x y o None ne
 
-  x-head : x ≡ head → ⊥
-  x-head e = ⊎_elim (λ (far : 64 ≤ head). omega (arith, lt)) (λ (h : of head ≡ b). apart (sym ahead.2 ∙ ap of e ∙ h)) (spot-far s b head lb onto)
+  link : Relinked to to' of of' cell x b
+  link = relinked-moves s.pool.links of of' a b cell x s.linked la lb apart led (ap receiver_of same ∙ mine) (λ y ne. ap receiver_of (other y ne))
 
-  cell-x : cell ≡ x → ⊥
-  cell-x e = (run-all to of a (x ∷ more) cell ahead).0.0 (sym e)
+  run-from : Run to' of' a (to' (64 + a)) (from.front ++ from.back)
+  run-from = cut to to' of of' a b cell x link apart led from.front from.back (64 + a) from.here (λ e. apart (omega arith)) run-a
 
-  link : Relinked to to' of of' cell x head b
-  link =
-      let in_cell : cell < length s.pool.links = omega (arith, spot_in s a cell la from, s.linked) in
-      let in_head : head < length s.pool.links = omega (arith, spot_in s b head lb onto, s.linked) in
-      let in-x : x < length s.pool.links = omega (arith, lt, s.linked) in
-      record {
-        at_cell = relinked-cell s.pool.links cell head in_cell in_head in-x cell-x cell-head x-head;
-        at_record = relinked-record s.pool.links cell head in_cell in_head in-x cell-x cell-head x-head;
-        at_head = relinked-head s.pool.links cell head in_cell in_head in-x cell-x cell-head x-head;
-        elsewhere = relinked-elsewhere s.pool.links cell head in_cell in_head in-x cell-x cell-head x-head;
-        owned = ap (λ (z : Message). z.receiver) (get_or-set_same s.pool.records x m blank (omega (arith, lt, s.sized))) ∙ mine;
-        kept = λ y ne. ap (λ (z : Message). z.receiver) (get_or-set_other s.pool.records x y m blank ne);
-      }
+  kept-from : (chain_of pool' a ≡ from.front ++ from.back) × Tight pool' a
+  kept-from = run-kept to' of' a (from.front ++ from.back) 64 (to' (64 + a))
+      (omega (arith, ap length from.split, length-append from.front (x ∷ from.back), length-append from.front from.back, chain_length to 64 (to (64 + a)))) run-from
 
-  run-from-a : Run to' of' a (64 + a) (from.front ++ more)
-  run-from-a = cut to to' of of' a b cell x head link apart ahead.2 (spot-far s a cell la from) (spot-far s b head lb onto)
-      from.front more (64 + a) from.here (spot-begins s b head lb onto a apart) run-a
+  kept-onto : (chain_of pool' b ≡ x ∷ chain_of s.pool b) × Tight pool' b
+  kept-onto = run-kept to' of' b (x ∷ chain_of s.pool b) 64 (to' (64 + b)) (omega (arith, fits))
+      (joined to to' of of' a b cell x link apart led (chain_of s.pool b) (box-run s b lb))
 
-  run-onto-b : Run to' of' b (64 + b) (onto.front ++ x ∷ onto.back)
-  run-onto-b = put to to' of of' a b cell x head link apart ahead.2 (spot-far s a cell la from) (spot-far s b head lb onto)
-      onto.front onto.back (64 + b) onto.here (spot-begins s a cell la from b (λ e. apart (sym e))) (λ e. omega (arith, lt)) lt (spot-run s b head lb onto)
-
-  run-other : (r : ℕ) → r ≤ 16 → (r ≢ a) → (r ≢ b) → Run to' of' r (64 + r) (chain_of s.pool r)
-  run-other r lr na nb = stay to to' of of' a b cell x head link apart ahead.2 (spot-far s a cell la from) (spot-far s b head lb onto)
-      r (chain_of s.pool r) (64 + r) na nb (spot-begins s a cell la from r na) (λ e. omega (arith, lt)) (spot-begins s b head lb onto r nb) (box-run s r lr)
-
-  in-a : length (from.front ++ more) ≤ 64
-  in-a = omega (arith, ap length (spot-split s a cell la from lt), length-append from.front (x ∷ more), length-append from.front more, chain_length to 64 (64 + a))
-
-  in_b : length (onto.front ++ x ∷ onto.back) ≤ 64
-  in_b = omega (arith, fits, ap length onto.split, length-append onto.front (x ∷ onto.back), length-append onto.front onto.back)
-
-  tight-all : (r : ℕ) → r ≤ 16 → Tight pool' r
-  tight-all r lr = ⊎_elim
-      (λ (e : r ≡ a). subst (Tight pool') (sym e) (run-tight to' of' a (from.front ++ more) 64 (64 + a) in-a run-from-a))
-      (λ na. ⊎_elim
-      (λ (e : r ≡ b). subst (Tight pool') (sym e) (run-tight to' of' b (onto.front ++ x ∷ onto.back) 64 (64 + b) in_b run-onto-b))
-      (λ nb. run-tight to' of' r (chain_of s.pool r) 64 (64 + r) (chain_length to 64 (64 + r)) (run-other r lr na nb))
-      (cases_eq r b))
-      (cases_eq r a)
-
-  signed_all : signed m ≡ true → (i : ℕ) → signed (held pool'.records i) ≡ true
-  signed_all ok i = ⊎_elim
-      (λ (e : i ≡ x). ap signed (ap (held pool'.records) e ∙ get_or-set_same s.pool.records x m blank (omega (arith, lt, s.sized))) ∙ ok)
-      (λ ne. ap signed (get_or-set_other s.pool.records x i m blank ne) ∙ s.sent i)
-      (cases_eq i x)
-
-  from-a : chain_of pool' a ≡ from.front ++ more
-  from-a = run-chain to' of' a (from.front ++ more) 64 (64 + a) in-a run-from-a
-
-  onto-b : chain_of pool' b ≡ onto.front ++ x ∷ onto.back
-  onto-b = run-chain to' of' b (onto.front ++ x ∷ onto.back) 64 (64 + b) in_b run-onto-b
-
-  others : (r : ℕ) → r ≤ 16 → (r ≢ a) → (r ≢ b) → chain_of pool' r ≡ chain_of s.pool r
-  others r lr na nb = run-chain to' of' r (chain_of s.pool r) 64 (64 + r) (chain_length to 64 (64 + r)) (run-other r lr na nb)
+  kept-other : (r : ℕ) → r ≤ 16 → (r ≢ a) → (r ≢ b) → (chain_of pool' r ≡ chain_of s.pool r) × Tight pool' r
+  kept-other r lr na nb = run-kept to' of' r (chain_of s.pool r) 64 (to' (64 + r)) (chain_length to 64 (to (64 + r)))
+      (others to to' of of' a b cell x link apart led r (chain_of s.pool r) na nb (box-run s r lr))
 
   -- the record lies in no other box
-  off : (r : ℕ) → r ≤ 16 → (r ≢ a) → AllByRecursion (λ y. y ≢ x) (chain_of s.pool r)
-  off r lr na = All-weaker _ (λ y. y ≢ x) (λ y h e. na (sym h.1.1 ∙ ap of e ∙ ahead.2))
-      (chain_of s.pool r) (run-all to of r (chain_of s.pool r) (64 + r) (box-run s r lr))
+  box-kept : (r : ℕ) → r ≤ 16 → (r ≢ a) → filter_map (held pool'.records) (chain_of s.pool r) ≡ box s r
+  box-kept r lr na = map-kept s.pool.records x o (chain_of s.pool r)
+      (elsewhere to of r (chain_of s.pool r) (to (64 + r)) x (λ e. na (sym e ∙ led.own)) (box-run s r lr))
 
-  pub moves : Moved s a b m pool' more cell head from onto
+  pub moves : Moved s a b o pool' cell x from
   moves = record {
-    chained = tight-all;
-    sent = signed_all;
-    chain-from = from-a;
-    chain-onto = onto-b;
-    box-from = ap (map (held pool'.records)) from-a
-        ∙ map-kept s.pool.records x m (from.front ++ more) (apart_from to of a from.front more (64 + a) x run-a);
-    box-onto = ap (map (held pool'.records)) onto-b
-        ∙ map-put s.pool.records x m onto.front onto.back (omega (arith, lt, s.sized))
-        (subst (AllByRecursion (λ y. y ≢ x)) onto.split (off b lb (λ e. apart (sym e))));
-    box-other = λ r lr na nb. ap (map (held pool'.records)) (others r lr na nb) ∙ map-kept s.pool.records x m (chain_of s.pool r) (off r lr na);
+    boxed = λ none counted spare. record {
+      sized = simp length-set s.sized;
+      linked = simp length-set s.linked;
+      chained = λ r lr. ⊎_elim (λ (e : r ≡ a). subst (Tight pool') (sym e) kept-from.1)
+          (λ (na : r ≢ a). ⊎_elim (λ (e : r ≡ b). subst (Tight pool') (sym e) kept-onto.1) (λ (nb : r ≢ b). (kept-other r lr na nb).1) (cases_eq r b))
+          (cases_eq r a);
+      sent = each-addressed (pile_of pool') none;
+      counted = counted;
+      spare = spare;
+    };
+    chain-from = kept-from.0;
+    chain-onto = kept-onto.0;
+    box-from = ap (filter_map (held pool'.records)) kept-from.0
+        ∙ map-kept s.pool.records x o (from.front ++ from.back) (elsewhere to' of' a (from.front ++ from.back) (to' (64 + a)) x (λ e. apart (sym e ∙ link.owned)) run-from);
+    box-onto = rw (kept-onto.0, same) (ap (cons_option o) (box-kept b lb (λ e. apart (sym e))));
+    box-other = λ r lr na nb. rw (kept-other r lr na nb).0 (box-kept r lr na);
   }

@@ -1,9 +1,9 @@
 pub mod Runs
-pub mod Searches
 pub mod Moves
-pub mod Boxings
+pub mod Searches
 pub mod Stacks
+pub mod Boxings
 pub mod Piles
 pub mod Posts
-pub mod Takes
 pub mod Fresh
+pub mod Takes

@@ -1,30 +1,19 @@
--- All boxes together. Assumes nothing.
-use Rattle.std.proofs.Common.{◌≡◌, ℕ, ◌+◌, ◌<◌, ◌≤◌, true, false, cond, List, length, ◌==◌, ◌≢◌, sym, ap, subst, ◌∙◌, ⊎_elim, arith}
-use Rattle.std.proofs.lemmas.List.{length-set, length-map}
-use Rattle.std.proofs.lemmas.Bool.{cases_eq, cases_lt, and_left, eq-eqb, ne_eqb, cond-true, cond-false}
+-- All boxes together.
+use Rattle.std.proofs.Common.{◌≡◌, ℕ, suc, ◌+◌, ◌<◌, ◌≤◌, false, cond, List, [], ◌∷◌, filter_map, length, Option, Some, None, ◌==◌, ◌≢◌, refl, sym, subst, ◌∙◌, ⊎_elim, arith}
+use Rattle.std.specs.List.{AllByRecursion, cons_option}
+use Rattle.std.proofs.ByRecursion.{All-weaker}
+use Rattle.std.proofs.lemmas.Bool.{cases_eq, and_left, eq-eqb, ne_eqb, cond-true, cond-false}
 use Rattle.mail.specs.Collections.{first}
 use Rattle.mail.specs.Messages.{wanted}
 use Rattle.mail.specs.declared.message.Message.{Message}
-use Rattle.boxes.specs.Chains.{next, held, chain_of, pile_of}
-use Rattle.boxes.specs.Inner.{Tight, signed, relinked}
+use Rattle.boxes.specs.Chains.{next, held, chain_of}
+use Rattle.boxes.specs.Inner.{receiver_of}
 use Rattle.boxes.specs.Meaning.{box, pile}
-use Rattle.boxes.specs.Addressed.{box-all}
 use Rattle.boxes.specs.declared.boxes.Boxes.{Boxes}
-use Rattle.boxes.specs.declared.boxes.pool.Pool.{Pool}
-use Rattle.boxes.proofs.Runs.{chain-end}
+use Rattle.boxes.proofs.Runs.{Run}
+use Rattle.boxes.proofs.Searches.{Spot}
+use Rattle.boxes.proofs.Boxings.{box-run}
 use Rattle.boxes.proofs.Stacks.{stacked-has, stacked-first}
-
--- what boxes keep, of those that a call leaves
-pub record Boxed (pool : Pool) : Type 0 where
-  pub sized : length pool.records ≡ 64
-  pub linked : length pool.links ≡ 81
-  pub chained : (q : ℕ) → q ≤ 16 → Tight pool q
-  pub sent : (i : ℕ) → signed (held pool.records i) ≡ true
-  pub counted : length (pile_of pool) ≡ pool.count
-  pub spare : length (chain_of pool 0) + pool.count ≡ 64
-
-pub length-relinked : (links : List ℕ) (cell head : ℕ) → length (relinked links cell head) ≡ length links
-length-relinked links cell head = simp length-set
 
 -- one box is new, and the others are the old ones
 pub one-box : (q : ℕ) (now old new : ℕ → List Message) → now q ≡ new q → (r : ℕ) → ((r ≢ q) → now r ≡ old r) → now r ≡ cond (q == r) (new r) (old r)
@@ -33,18 +22,35 @@ one-box q now old new here r else = ⊎_elim
     (λ (ne : q ≡ r → ⊥). else (λ e. ne (sym e)) ∙ sym (cond-false _ _ _ (ne_eqb q r ne)))
     (cases_eq q r)
 
+-- each record of a receiver's run holds a message for that receiver
+mine : (o : Option Message) (ms : List Message) (r n : ℕ) → 1 ≤ r → receiver_of o ≡ r → AllByRecursion (λ m. m.receiver ≡ r) ms × (length ms ≡ n)
+    → AllByRecursion (λ m. m.receiver ≡ r) (cons_option o ms) × (length (cons_option o ms) ≡ suc n)
+mine None ms r n l e h = absurd (omega arith)
+mine (Some m) ms r n l e h = ((e, h.0), omega arith)
+
+run-mine : (to : ℕ → Option ℕ) (of : ℕ → Option Message) (r : ℕ) (xs : List ℕ) (link : Option ℕ) → 1 ≤ r → Run to (λ i. receiver_of (of i)) r link xs
+    → AllByRecursion (λ m. m.receiver ≡ r) (filter_map of xs) × (length (filter_map of xs) ≡ length xs)
+run-mine to of r [] link l run = (tt, refl)
+run-mine to of r (x ∷ xs) link l run = mine (of x) (filter_map of xs) r (length xs) l run.2 (run-mine to of r xs (to x) l run.3)
+
 module _ (s : Boxes) where
   -- the first in the pile is the first in the box of its receiver
+  box-mine : (r : ℕ) → 1 ≤ r → r ≤ 16 → AllByRecursion (λ m. m.receiver ≡ r) (box s r) × (length (box s r) ≡ length (chain_of s.pool r))
+  box-mine r l u = run-mine (next s.pool.links) (held s.pool.records) r (chain_of s.pool r) (next s.pool.links (64 + r)) l (box-run s r u)
+
   pub pile-first : (q class : ℕ) → 1 ≤ q → q ≤ 16 → first (wanted q class) (pile s) ≡ first (wanted q class) (box s q)
   pile-first q class l u = stacked-first (wanted q class) (box s) q 16 l u (λ r l' u' ne.
-      box-all s (λ m. wanted q class m ≡ false) r u' (λ i e. and_left _ _ (ne_eqb _ q (λ e'. ne (sym e ∙ e')))))
+      All-weaker (λ m. m.receiver ≡ r) (λ m. wanted q class m ≡ false) (λ m e. and_left _ _ (ne_eqb m.receiver q (λ e'. ne (sym e ∙ e')))) (box s r) (box-mine r l' u').0)
 
   -- a box holds no more than the pile
   pub box-fits : (q : ℕ) → 1 ≤ q → q ≤ 16 → length (chain_of s.pool q) ≤ s.pool.count
-  box-fits q l u = omega (arith, s.counted, length-map (chain_of s.pool q) (held s.pool.records), stacked-has (box s) q 16 l u)
+  box-fits q l u = omega (arith, s.counted, (box-mine q l u).1, stacked-has (box s) q 16 l u)
+
+  -- the first of these records, if there is one
+  opens : (start : ℕ) (xs : List ℕ) → 0 < length xs → (x : ℕ) × Spot start xs start x
+  opens start [] h = absurd (omega arith)
+  opens start (x ∷ xs) h = (x, record { front = []; back = xs; here = refl; split = refl })
 
   -- a free record, where less than sixty-four wait
-  pub free-record : s.pool.count < 64 → next s.pool.links 64 < 64
-  free-record h = ⊎_elim (λ (lt : next s.pool.links 64 < 64). lt)
-      (λ (ge : 64 ≤ next s.pool.links 64). absurd (omega (arith, s.spare, ap length (chain-end (next s.pool.links) 64 64 ge))))
-      (cases_lt (next s.pool.links 64) 64)
+  pub free-record : s.pool.count < 64 → (x : ℕ) × Spot 64 (chain_of s.pool 0) 64 x
+  free-record h = opens 64 (chain_of s.pool 0) (omega (arith, s.spare))

@@ -1,131 +1,86 @@
--- Runs: what the links lead through from a cell to an end. Assumes nothing.
-use Rattle.std.proofs.Common.{◌≡◌, ℕ, zero, suc, ◌<◌, ◌≤◌, true, ltb, ◌⊎◌, List, [], ◌∷◌, ◌++◌, length, drop, ◌==◌, ◌≢◌, get_or, refl, subst, sym, ap, ◌∙◌, inl, inr, arith, length-drop, ⊎_elim}
+-- Runs: what the links lead through to an end.
+use Rattle.std.proofs.Common.{◌≡◌, ℕ, zero, suc, ◌+◌, ◌<◌, ◌≤◌, true, ◌&&◌, ltb, eqb, ◌⊎◌, List, [], ◌∷◌, ◌++◌, length, drop, ◌≢◌, get_or, Option, Some, None, refl, subst, sym, ap, ◌∙◌, inl, inr, arith, length-drop, ⊎_elim}
 use Rattle.std.specs.List.{AllByRecursion}
 use Rattle.std.proofs.ByRecursion.{All-from_get_or}
-use Rattle.std.proofs.lemmas.Bool.{cond-true, cond-false, lt-ltb, le-ltb, le-leb, leb-true, eq-eqb, eqb-true, and_from, and_parts, cases_lt}
+use Rattle.std.proofs.lemmas.Bool.{lt-ltb, ltb-true, eq-eqb, eqb-true, and_from, and_parts}
 use Rattle.boxes.specs.Chains.{chain}
 use Rattle.boxes.specs.Inner.{tight}
 
--- from this cell the links lead through these records, all of q, to an end
-abbrev pub Run : (ℕ → ℕ) → (ℕ → ℕ) → ℕ → ℕ → List ℕ → Type 0
-Run to of q cell [] = 64 ≤ to cell
-Run to of q cell (x ∷ xs) = (to cell ≡ x) × (x < 64) × (of x ≡ q) × Run to of q x xs
+-- from this link on they lead through these records, all of q, to an end
+abbrev pub Run : (ℕ → Option ℕ) → (ℕ → ℕ) → ℕ → Option ℕ → List ℕ → Type 0
+Run to of q link [] = link ≡ None
+Run to of q link (x ∷ xs) = (link ≡ Some x) × (x < 64) × (of x ≡ q) × Run to of q (to x) xs
 
 -- the last cell of a walk through these records
 abbrev pub ends : ℕ → List ℕ → ℕ
 ends cell [] = cell
 ends cell (x ∷ xs) = ends x xs
 
--- a cell on the way through these records
-pub record Spot (start : ℕ) (xs : List ℕ) (cell : ℕ) : Type 0 where
-  pub front : List ℕ
-  pub back : List ℕ
-  pub here : cell ≡ ends start front
-  pub split : xs ≡ front ++ back
+-- what is known of a cell on the way from `start`, and of the record after it
+pub record Led (to : ℕ → Option ℕ) (of : ℕ → ℕ) (q start cell x : ℕ) : Type 0 where
+  pub near : (cell ≡ start) ⊎ ((cell < 64) × (of cell ≡ q))
+  pub leads : to cell ≡ Some x
+  pub apart : x ≢ cell
+  pub lt : x < 64
+  pub own : of x ≡ q
 
--- where the walk begins
-abbrev pub spot-start : (start : ℕ) (xs : List ℕ) → Spot start xs start
-spot-start start xs = record { front = []; back = xs; here = refl; split = refl }
-
-pub all_both : (P Q : ℕ → Type 0) (xs : List ℕ) → AllByRecursion P xs → AllByRecursion Q xs → AllByRecursion (λ y. P y × Q y) xs
-all_both P Q [] p q = tt
-all_both P Q (x ∷ xs) p q = ((p.0, q.0), all_both P Q xs p.1 q.1)
-
-module _ (to of : ℕ → ℕ) (q : ℕ) where
-  pub run-chain : (xs : List ℕ) (n cell : ℕ) → length xs ≤ n → Run to of q cell xs → chain to n cell ≡ xs
-  unfolding chain
-  run-chain [] zero cell h r = refl
-  run-chain [] (suc n) cell h r = cond-false _ _ _ (le-ltb (to cell) 64 r)
-  run-chain (x ∷ xs) zero cell h r = absurd (omega arith)
-  run-chain (x ∷ xs) (suc n) cell h r =
-      cond-true _ _ _ (lt-ltb (to cell) 64 (omega (arith, r.0, r.1)))
-      ∙ rw r.0 (ap (λ ys. x ∷ ys) (run-chain xs n x (omega arith) r.3))
-
-  pub run-tight : (xs : List ℕ) (n cell : ℕ) → length xs ≤ n → Run to of q cell xs → tight to of q n cell ≡ true
-  unfolding tight
-  run-tight [] zero cell h r = le-leb 64 (to cell) r
-  run-tight [] (suc n) cell h r = cond-false _ _ _ (le-ltb (to cell) 64 r)
-  run-tight (x ∷ xs) zero cell h r = absurd (omega arith)
-  run-tight (x ∷ xs) (suc n) cell h r =
-      cond-true _ _ _ (lt-ltb (to cell) 64 (omega (arith, r.0, r.1)))
-      ∙ rw r.0 (and_from _ _ (eq-eqb (of x) q r.2) (run-tight xs n x (omega arith) r.3))
-
-  pub tight-run : (n cell : ℕ) → tight to of q n cell ≡ true → Run to of q cell (chain to n cell)
+module _ (to : ℕ → Option ℕ) (of : ℕ → ℕ) (q : ℕ) where
+  pub run-kept : (xs : List ℕ) (n : ℕ) (link : Option ℕ) → length xs ≤ n → Run to of q link xs
+      → (chain to n link ≡ xs) × (tight to of q n link ≡ true)
   unfolding chain tight
-  tight-run zero cell h = leb-true 64 (to cell) h
-  tight-run (suc n) cell h = ⊎_elim
-      (λ (lt : to cell < 64).
-      let yes : ltb (to cell) 64 ≡ true = lt-ltb (to cell) 64 lt in
-      let both = and_parts (of (to cell) == q) (tight to of q n (to cell)) (sym (cond-true _ _ _ yes) ∙ h) in
-      subst (Run to of q cell) (sym (cond-true (ltb (to cell) 64) _ _ yes)) (refl, lt, eqb-true _ _ both.0, tight-run n (to cell) both.1))
-      (λ (ge : 64 ≤ to cell). subst (Run to of q cell) (sym (cond-false (ltb (to cell) 64) _ _ (le-ltb (to cell) 64 ge))) ge)
-      (cases_lt (to cell) 64)
+  run-kept [] zero link h r = (rw r, rw r)
+  run-kept [] (suc n) link h r = (rw r, rw r)
+  run-kept (x ∷ xs) zero link h r = absurd (omega arith)
+  run-kept (x ∷ xs) (suc n) link h r =
+      let on = run-kept xs n (to x) (omega arith) r.3 in
+      (rw (r.0, on.0), rw r.0 (and_from _ _ (and_from _ _ (lt-ltb x 64 r.1) (eq-eqb (of x) q r.2)) on.1))
+
+  pub tight-run : (n : ℕ) (link : Option ℕ) → tight to of q n link ≡ true → Run to of q link (chain to n link)
+  unfolding chain tight
+  tight-run zero None h = refl
+  tight-run zero (Some x) h = cc
+  tight-run (suc n) None h = refl
+  tight-run (suc n) (Some x) h =
+      let both = and_parts (ltb x 64 && eqb (of x) q) (tight to of q n (to x)) h in
+      let here = and_parts (ltb x 64) (eqb (of x) q) both.0 in
+      (refl, ltb-true x 64 here.0, eqb-true (of x) q here.1, tight-run n (to x) both.1)
 
   -- links lead one way only
-  run-same : (xs ys : List ℕ) (cell : ℕ) → Run to of q cell xs → Run to of q cell ys → xs ≡ ys
-  run-same [] [] cell r s = refl
-  run-same [] (y ∷ ys) cell r s = absurd (omega (arith, r, s.0, s.1))
-  run-same (x ∷ xs) [] cell r s = absurd (omega (arith, s, r.0, r.1))
-  run-same (x ∷ xs) (y ∷ ys) cell r s =
-      let e : y ≡ x = sym s.0 ∙ r.0 in
-      let more = run-same xs ys x r.3 (subst (λ z. Run to of q z ys) e s.3) in
-      rw (e, more)
+  run-same : (xs ys : List ℕ) (link : Option ℕ) → Run to of q link xs → Run to of q link ys → xs ≡ ys
+  run-same xs ys link r s = let n = length xs + length ys in sym (run-kept xs n link (omega arith) r).0 ∙ (run-kept ys n link (omega arith) s).0
 
-  run_drop : (xs : List ℕ) (cell k : ℕ) → k < length xs → Run to of q cell xs → Run to of q (get_or xs k 0) (drop (suc k) xs)
-  run_drop [] cell k h r = absurd (omega arith)
-  run_drop (x ∷ xs) cell zero h r = r.3
-  run_drop (x ∷ xs) cell (suc k) h r = run_drop xs x k (omega arith) r.3
+  run_at : (xs : List ℕ) (link : Option ℕ) (k : ℕ) → k < length xs → Run to of q link xs
+      → (get_or xs k 0 < 64) × (of (get_or xs k 0) ≡ q) × Run to of q (to (get_or xs k 0)) (drop (suc k) xs)
+  run_at [] link k h r = absurd (omega arith)
+  run_at (x ∷ xs) link zero h r = (r.1, r.2, r.3)
+  run_at (x ∷ xs) link (suc k) h r = run_at xs (to x) k (omega arith) r.3
 
   -- so no run comes back to where it began
-  run-fresh : (xs : List ℕ) (cell : ℕ) → Run to of q cell xs → AllByRecursion (λ x. x ≢ cell) xs
-  run-fresh xs cell r = All-from_get_or (λ x. x ≢ cell) xs 0 (λ k h e.
-      let again : Run to of q cell (drop (suc k) xs) = subst (λ z. Run to of q z (drop (suc k) xs)) e (run_drop xs cell k h r) in
-      omega (arith, ap length (run-same xs (drop (suc k) xs) cell r again), length-drop (suc k) xs))
+  pub run-all : (xs : List ℕ) (cell : ℕ) → Run to of q (to cell) xs → AllByRecursion (λ y. (y ≢ cell) × (y < 64) × (of y ≡ q)) xs
+  run-all xs cell r = All-from_get_or (λ y. (y ≢ cell) × (y < 64) × (of y ≡ q)) xs 0 (λ k h.
+      let on = run_at xs (to cell) k h r in (
+        (λ e.
+            let again : Run to of q (to cell) (drop (suc k) xs) = subst (λ z. Run to of q (to z) (drop (suc k) xs)) e on.2 in
+            omega (arith, ap length (run-same xs (drop (suc k) xs) (to cell) r again), length-drop (suc k) xs)),
+        on.0,
+        on.1,
+      ))
 
-  run-owned : (xs : List ℕ) (cell : ℕ) → Run to of q cell xs → AllByRecursion (λ x. (x < 64) × (of x ≡ q)) xs
-  run-owned [] cell r = tt
-  run-owned (x ∷ xs) cell r = ((r.1, r.2), run-owned xs x r.3)
+  pub run-led : (front back : List ℕ) (start cell x : ℕ) → cell ≡ ends start front → Run to of q (to start) (front ++ x ∷ back) → Led to of q start cell x
+  run-led [] back start cell x here r = record { near = inl here; leads = ap to here ∙ r.0; apart = λ e. (run-all (x ∷ back) start r).0.0 (e ∙ here); lt = r.1; own = r.2 }
+  run-led (f ∷ front) back start cell x here r =
+      let on = run-led front back f cell x here r.3 in
+      record {
+        near = inr (⊎_elim (λ (e : cell ≡ f). rw e (r.1, r.2)) (λ h. h) on.near);
+        leads = on.leads;
+        apart = on.apart;
+        lt = on.lt;
+        own = on.own;
+      }
 
-  -- what holds of each record of a run
-  pub run-all : (xs : List ℕ) (cell : ℕ) → Run to of q cell xs → AllByRecursion (λ x. (x ≢ cell) × ((x < 64) × (of x ≡ q))) xs
-  run-all xs cell r = all_both (λ x. x ≢ cell) (λ x. (x < 64) × (of x ≡ q)) xs (run-fresh xs cell r) (run-owned xs cell r)
-
-  -- a cell on the way is where the run begins, or one of its records
-  pub run-cell : (front rest : List ℕ) (cell : ℕ) → Run to of q cell (front ++ rest)
-      → (ends cell front ≡ cell) ⊎ ((ends cell front < 64) × (of (ends cell front) ≡ q))
-  run-cell [] rest cell r = inl refl
-  run-cell (f ∷ front) rest cell r = inr (⊎_elim
-      (λ e. subst (λ z. (z < 64) × (of z ≡ q)) (sym e) (r.1, r.2)) (λ h. h) (run-cell front rest f r.3))
-
-  -- and from it the run goes on
-  pub run-rest : (front rest : List ℕ) (cell : ℕ) → Run to of q cell (front ++ rest) → Run to of q (ends cell front) rest
-  run-rest [] rest cell r = r
-  run-rest (f ∷ front) rest cell r = run-rest front rest f r.3
-
-  -- what is left begins with the record that the cell leads to
-  pub run-next : (xs : List ℕ) (cell : ℕ) → to cell < 64 → Run to of q cell xs → (more : List ℕ) × (xs ≡ to cell ∷ more) × Run to of q (to cell) more
-  run-next [] cell lt r = absurd (omega (arith, r))
-  run-next (x ∷ xs) cell lt r = (xs, ap (λ y. y ∷ xs) (sym r.0), subst (λ z. Run to of q z xs) (sym r.0) r.3)
-
-  pub run_end : (xs : List ℕ) (cell : ℕ) → 64 ≤ to cell → Run to of q cell xs → xs ≡ []
-  run_end [] cell ge r = refl
-  run_end (x ∷ xs) cell ge r = absurd (omega (arith, r.0, r.1))
-
-  -- the same records from another cell, along other links
-  pub run-from : (to' of' : ℕ → ℕ) (xs : List ℕ) (cell cell' : ℕ) → to' cell' ≡ to cell
-      → AllByRecursion (λ y. (to' y ≡ to y) × (of' y ≡ of y)) xs → Run to of q cell xs → Run to' of' q cell' xs
-  run-from to' of' [] cell cell' e a r = rw e r
-  run-from to' of' (x ∷ xs) cell cell' e a r = (e ∙ r.0, r.1, a.0.1 ∙ r.2, run-from to' of' xs x x a.0.0 a.1 r.3)
-
-pub chain-end : (to : ℕ → ℕ) (n cell : ℕ) → 64 ≤ to cell → chain to n cell ≡ []
+pub chain_length : (to : ℕ → Option ℕ) (n : ℕ) (link : Option ℕ) → length (chain to n link) ≤ n
 unfolding chain
-chain-end to zero cell ge = refl
-chain-end to (suc n) cell ge = cond-false _ _ _ (le-ltb (to cell) 64 ge)
-
-pub chain_length : (to : ℕ → ℕ) (n cell : ℕ) → length (chain to n cell) ≤ n
-unfolding chain
-chain_length to zero cell = omega arith
-chain_length to (suc n) cell = ⊎_elim
-    (λ (lt : to cell < 64). rw (cond-true (ltb (to cell) 64) (to cell ∷ chain to n (to cell)) [] (lt-ltb (to cell) 64 lt)) (omega (arith, chain_length to n (to cell))))
-    (λ (ge : 64 ≤ to cell). rw (chain-end to (suc n) cell ge) (omega arith))
-    (cases_lt (to cell) 64)
+chain_length to zero None = omega arith
+chain_length to zero (Some x) = omega arith
+chain_length to (suc n) None = omega arith
+chain_length to (suc n) (Some x) = omega (arith, chain_length to n (to x))

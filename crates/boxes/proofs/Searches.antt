@@ -1,85 +1,117 @@
--- A search along a run. Assumes nothing.
-use Rattle.std.proofs.Common.{◌≡◌, ℕ, ◌<◌, ◌≤◌, Bool, true, false, not, ◌&&◌, ltb, List, [], ◌∷◌, ◌++◌, map, length, Some, None, refl, sym, ap, ◌∙◌, ⊎_elim, arith}
-use Rattle.std.specs.List.{AllByRecursion}
-use Rattle.std.proofs.lemmas.Bool.{cond-true, cond-false, cases_Bool, cases_lt, and_cases, not-false, ltb-false}
+-- A search along a run.
+use Rattle.std.proofs.Common.{◌≡◌, ℕ, ◌+◌, Bool, true, false, List, [], ◌∷◌, ◌++◌, filter_map, Option, Some, None, refl, sym, ap, ◌∙◌, ⊎_elim, arith}
+use Rattle.std.specs.List.{cons_option}
+use Rattle.std.proofs.lemmas.Bool.{cond-true, cond-false, cases_Bool}
 use Rattle.mail.specs.Collections.{first, without}
+use Rattle.mail.specs.Messages.{class_number, wanted}
+use Rattle.mail.specs.declared.asked.Asked.{Asked}
 use Rattle.mail.specs.declared.message.Message.{Message}
-use Rattle.boxes.specs.Chains.{chain}
-use Rattle.boxes.specs.Inner.{tight, before}
-use Rattle.boxes.proofs.Runs.{Spot, run-chain, run-tight, tight-run, run-next, chain-end, chain_length}
+use Rattle.boxes.specs.Chains.{next, chain, chain_of}
+use Rattle.boxes.specs.Inner.{owner, tight, before, is_asked_for, sought}
+use Rattle.boxes.specs.declared.boxes.Boxes.{Boxes}
+use Rattle.boxes.proofs.Runs.{Run, ends, run-kept, tight-run, chain_length}
 
--- at a cell
-module _ (to of : ℕ → ℕ) (q cell : ℕ) (t : tight to of q 64 cell ≡ true) where
-  pub chain_next : to cell < 64 → chain to 64 cell ≡ to cell ∷ chain to 64 (to cell)
-  chain_next lt =
-      let on = run-next to of q (chain to 64 cell) cell lt (tight-run to of q 64 cell t) in
-      on.1 ∙ ap (λ ys. to cell ∷ ys) (sym (run-chain to of q on.0 64 (to cell) (omega (arith, ap length on.1, chain_length to 64 cell)) on.2))
+-- a record of this chain, and the cell that leads to it
+pub record Spot (start : ℕ) (xs : List ℕ) (cell x : ℕ) : Type 0 where
+  pub front : List ℕ
+  pub back : List ℕ
+  pub here : cell ≡ ends start front
+  pub split : xs ≡ front ++ x ∷ back
 
-  pub tight-next : to cell < 64 → tight to of q 64 (to cell) ≡ true
-  tight-next lt =
-      let on = run-next to of q (chain to 64 cell) cell lt (tight-run to of q 64 cell t) in
-      run-tight to of q on.0 64 (to cell) (omega (arith, ap length on.1, chain_length to 64 cell)) on.2
+-- a search came to this cell: from it on the search ends where the whole one does
+pub record Searching (s : Boxes) (asked : Asked) (cell : ℕ) : Type 0 where
+  pub kept : tight (next s.pool.links) (owner s.pool.records) asked.receiver 64 (next s.pool.links cell) ≡ true
+  pub onward : before (sought s.pool asked) cell (chain (next s.pool.links) 64 (next s.pool.links cell))
+      ≡ before (sought s.pool asked) (64 + asked.receiver) (chain_of s.pool asked.receiver)
 
-  -- the search goes on, or ends here
-  module _ (test : ℕ → Bool) where
-    pub search-on : to cell < 64 → test (to cell) ≡ false → before test cell (chain to 64 cell) ≡ before test (to cell) (chain to 64 (to cell))
-    search-on lt no' = ap (before test cell) (chain_next lt) ∙ cond-false _ _ _ no'
+-- the record after the cell, and the chain from there on
+module _ (s : Boxes) (asked : Asked) (cell x : ℕ) (c : Searching s asked cell) (e : Some x ≡ next s.pool.links cell) where
+  abbrev to : ℕ → Option ℕ
+  to = next s.pool.links
 
-    pub search-ends : (ltb (to cell) 64 && not (test (to cell))) ≡ false → before test cell (chain to 64 cell) ≡ cell
-    search-ends h = ⊎_elim
-        (λ (lt : to cell < 64).
-        let met : test (to cell) ≡ true = ⊎_elim (λ (f : ltb (to cell) 64 ≡ false). absurd (omega (arith, ltb-false (to cell) 64 f))) (not-false (test (to cell))) (and_cases _ _ h) in
-        ap (before test cell) (chain_next lt) ∙ cond-true _ _ _ met)
-        (λ (ge : 64 ≤ to cell). ap (before test cell) (chain-end to 64 cell ge))
-        (cases_lt (to cell) 64)
+  abbrev of : ℕ → ℕ
+  of = owner s.pool.records
 
--- these records begin with one that passes, if there are any
-abbrev pub Opens : (ℕ → Bool) → List ℕ → Type 0
-Opens test [] = Unit {0}
-Opens test (x ∷ xs) = test x ≡ true
+  run : Run to of asked.receiver (Some x) (x ∷ chain to 63 (to x))
+  unfolding chain
+  run = tight-run to of asked.receiver 64 (Some x) (rw (← e) at c.kept)
 
--- where a search ends: none before passes, and the next one does
-pub record Found (test : ℕ → Bool) (start : ℕ) (xs : List ℕ) (cell : ℕ) : Type 0 where
-  pub spot : Spot start xs cell
-  pub none : AllByRecursion (λ i. test i ≡ false) spot.front
-  pub hit : Opens test spot.back
+  on : (chain to 64 (to x) ≡ chain to 63 (to x)) × (tight to of asked.receiver 64 (to x) ≡ true)
+  on = run-kept to of asked.receiver (chain to 63 (to x)) 64 (to x) (omega (arith, chain_length to 63 (to x))) run.3
 
-pub search-found : (test : ℕ → Bool) (start : ℕ) (xs : List ℕ) → Found test start xs (before test start xs)
-search-found test start [] = record { spot = record { front = []; back = []; here = refl; split = refl }; none = tt; hit = tt }
-search-found test start (x ∷ xs) = ⊎_elim
-    (λ (yes' : test x ≡ true). record {
-      spot = record { front = []; back = x ∷ xs; here = cond-true _ _ _ yes'; split = refl };
-      none = tt;
-      hit = yes';
-    })
-    (λ (no' : test x ≡ false).
-    let later = search-found test x xs in
-    record {
-      spot = record {
-        front = x ∷ later.spot.front;
-        back = later.spot.back;
-        here = cond-false _ _ _ no' ∙ later.spot.here;
-        split = ap (λ ys. x ∷ ys) later.spot.split;
-      };
-      none = (no', later.none);
-      hit = later.hit;
-    })
-    (cases_Bool (test x))
+  pub search-chain : chain to 64 (to cell) ≡ x ∷ chain to 64 (to x)
+  unfolding chain
+  search-chain = rw (← e, on.0)
 
--- none passes
-pub first_absent : (test : Message → Bool) (ms : List Message) → AllByRecursion (λ m. test m ≡ false) ms → first test ms ≡ None
-first_absent test [] none = refl
-first_absent test (m ∷ ms) none = cond-false _ _ _ none.0 ∙ first_absent test ms none.1
+  -- the search goes on there, or ends here
+  pub search-on : false ≡ sought s.pool asked x → Searching s asked x
+  search-on no' = record {
+    kept = on.1;
+    onward = sym (ap (before (sought s.pool asked) cell) search-chain ∙ cond-false _ _ _ (sym no')) ∙ c.onward;
+  }
 
--- the messages that these records hold
-module _ (test : Message → Bool) (of : ℕ → Message) where
-  pub first-named : (front back : List ℕ) (x : ℕ) → AllByRecursion (λ i. test (of i) ≡ false) front → test (of x) ≡ true
-      → first test (map of (front ++ x ∷ back)) ≡ Some (of x)
-  first-named [] back x none here = cond-true _ _ _ here
-  first-named (f ∷ front) back x none here = cond-false _ _ _ none.0 ∙ first-named front back x none.1 here
+  pub search-ends : true ≡ sought s.pool asked x → Some cell ≡ before (sought s.pool asked) (64 + asked.receiver) (chain_of s.pool asked.receiver)
+  search-ends yes' = sym (ap (before (sought s.pool asked) cell) search-chain ∙ cond-true _ _ _ (sym yes')) ∙ c.onward
 
-  pub without-named : (front back : List ℕ) (x : ℕ) → AllByRecursion (λ i. test (of i) ≡ false) front → test (of x) ≡ true
-      → without test (map of (front ++ x ∷ back)) ≡ map of (front ++ back)
-  without-named [] back x none here = cond-true _ _ _ here
-  without-named (f ∷ front) back x none here =
-      cond-false _ _ _ none.0 ∙ ap (λ ms. of f ∷ ms) (without-named front back x none.1 here)
+-- what is asked for, among the messages in records
+module _ (asked : Asked) (of : ℕ → Option Message) where
+  abbrev test : Message → Bool
+  test = wanted asked.receiver (class_number asked.class)
+
+  abbrev seek : ℕ → List ℕ → Option ℕ
+  seek = before (λ i. is_asked_for asked (of i))
+
+  -- where a search ends: the first such message is in the record after the cell
+  pub record Found (start : ℕ) (xs : List ℕ) (cell : ℕ) : Type 0 where
+    pub x : ℕ
+    pub m : Message
+    pub spot : Spot start xs cell x
+    pub holds : of x ≡ Some m
+    pub pick : first test (filter_map of xs) ≡ Some m
+    pub rest : without test (filter_map of xs) ≡ filter_map of (spot.front ++ spot.back)
+
+  -- what is not asked for is passed, and what is asked for is a message
+  skip : (o : Option Message) (ms : List Message) → is_asked_for asked o ≡ false
+      → (first test (cons_option o ms) ≡ first test ms) × (without test (cons_option o ms) ≡ cons_option o (without test ms))
+  skip None ms no' = (refl, refl)
+  skip (Some m) ms no' = (rw no', rw no')
+
+  taken : (o : Option Message) (ms : List Message) → is_asked_for asked o ≡ true
+      → (m : Message) × (o ≡ Some m) × (first test (cons_option o ms) ≡ Some m) × (without test (cons_option o ms) ≡ ms)
+  taken None ms yes' = cc
+  taken (Some m) ms yes' = (m, refl, rw yes', rw yes')
+
+  pub search-found : (xs : List ℕ) (start cell : ℕ) → seek start xs ≡ Some cell → Found start xs cell
+  search-found [] start cell h = cc
+  search-found (x ∷ xs) start cell h = ⊎_elim
+      (λ (yes' : is_asked_for asked (of x) ≡ true).
+      let e : Some start ≡ Some cell = sym (cond-true _ _ _ yes') ∙ h in
+      let it = taken (of x) (filter_map of xs) yes' in
+      record {
+        x = x;
+        m = it.0;
+        spot = record { front = []; back = xs; here = cc; split = refl };
+        holds = it.1;
+        pick = it.2;
+        rest = it.3;
+      })
+      (λ (no' : is_asked_for asked (of x) ≡ false).
+      let later = search-found xs x cell (sym (cond-false _ _ _ no') ∙ h) in
+      let past = skip (of x) (filter_map of xs) no' in
+      record {
+        x = later.x;
+        m = later.m;
+        spot = record { front = x ∷ later.spot.front; back = later.spot.back; here = later.spot.here; split = ap (λ ys. x ∷ ys) later.spot.split };
+        holds = later.holds;
+        pick = past.0 ∙ later.pick;
+        rest = past.1 ∙ ap (cons_option (of x)) later.rest;
+      })
+      (cases_Bool (is_asked_for asked (of x)))
+
+  -- or there is none
+  pub search_none : (xs : List ℕ) (start : ℕ) → seek start xs ≡ None → first test (filter_map of xs) ≡ None
+  search_none [] start h = refl
+  search_none (x ∷ xs) start h = ⊎_elim
+      (λ (yes' : is_asked_for asked (of x) ≡ true). let e : Some start ≡ None = sym (cond-true _ _ _ yes') ∙ h in cc)
+      (λ (no' : is_asked_for asked (of x) ≡ false). (skip (of x) (filter_map of xs) no').0 ∙ search_none xs x (sym (cond-false _ _ _ no') ∙ h))
+      (cases_Bool (is_asked_for asked (of x)))

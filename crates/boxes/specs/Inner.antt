@@ -1,52 +1,70 @@
 -- For inner functions, and for what the boxes keep between calls; no public contract needs it.
-use Rattle.std.specs.Prelude.{◌≡◌, ℕ, zero, suc, ◌+◌, Bool, true, cond, not, ◌&&◌, ◌||◌, List, [], ◌∷◌, ◌++◌, replicate, ◌==◌, nat_le, nat_lt, slice_set}
+use Rattle.std.specs.Prelude.{◌≡◌, ℕ, zero, suc, ◌+◌, Bool, true, false, cond, ◌&&◌, List, [], ◌∷◌, map, replicate, ◌==◌, nat_lt, slice_set, unwrap_or, option_map, option_and_then, Option, Some, None}
 use Rattle.std.specs.List.{range_with_len}
-use Rattle.mail.specs.Messages.{is_processor, wanted, blank}
+use Rattle.mail.specs.Messages.{class_number, wanted}
+use Rattle.mail.specs.declared.asked.Asked.{Asked}
 use Rattle.mail.specs.declared.message.Message.{Message}
 use Rattle.boxes.specs.Chains.{next, held}
 use Rattle.boxes.specs.declared.boxes.pool.Pool.{Pool}
 
--- every record is free, and leads to the next
+-- the link in a cell of a new pool: each record leads to the next, and the free chain begins with the first
+abbrev pub first_link : ℕ → Option ℕ
+first_link cell = cond (nat_lt cell 63) (Some (cell + 1)) (cond (cell == 64) (Some 0) None)
+
+-- every record is free
 abbrev pub fresh : Pool
-fresh = record { records = replicate 64 blank; links = range_with_len 1 63 ++ 255 ∷ 0 ∷ replicate 16 255; count = 0 }
+fresh = record { records = replicate 64 None; links = map first_link (range_with_len 0 81); count = 0 }
+
+-- whose message it is; nothing is of 0
+abbrev pub receiver_of : Option Message → ℕ
+receiver_of None = 0
+receiver_of (Some m) = m.receiver
 
 -- whose record it is; 0 for a free one
-abbrev pub owner : List Message → ℕ → ℕ
-owner records i = (held records i).receiver
+abbrev pub owner : List (Option Message) → ℕ → ℕ
+owner records i = receiver_of (held records i)
 
--- within n records the chain ends, and each belongs to q
-unfoldable pub tight : (ℕ → ℕ) → (ℕ → ℕ) → ℕ → ℕ → ℕ → Bool
-tight to of q zero cell = nat_le 64 (to cell)
-tight to of q (suc n) cell = cond (nat_lt (to cell) 64) (of (to cell) == q && tight to of q n (to cell)) true
+-- within n records the chain ends, and each is one of the 64 and belongs to q
+unfoldable pub tight : (ℕ → Option ℕ) → (ℕ → ℕ) → ℕ → ℕ → Option ℕ → Bool
+tight to of q n None = true
+tight to of q zero (Some x) = false
+tight to of q (suc n) (Some x) = nat_lt x 64 && of x == q && tight to of q n (to x)
 
 -- so does the chain of q in a pool
 abbrev pub Tight : Pool → ℕ → Type 0
-Tight pool q = tight (next pool.links) (owner pool.records) q 64 (64 + q) ≡ true
+Tight pool q = tight (next pool.links) (owner pool.records) q 64 (next pool.links (64 + q)) ≡ true
 
--- a record is free, or a processor sent its message
-abbrev pub signed : Message → Bool
-signed m = m.receiver == 0 || is_processor m.sender
+-- is it a message that is asked for?
+abbrev pub is_asked_for : Asked → Option Message → Bool
+is_asked_for asked None = false
+is_asked_for asked (Some m) = wanted asked.receiver (class_number asked.class) m
 
--- does the record hold a message for that receiver and of that class?
-abbrev pub sought : Pool → ℕ → ℕ → ℕ → Bool
-sought pool receiver class i = wanted receiver class (held pool.records i)
+-- does the record hold one?
+abbrev pub sought : Pool → Asked → ℕ → Bool
+sought pool asked i = is_asked_for asked (held pool.records i)
 
--- the cell leads to a record, and not to such a one
-abbrev pub passed : Pool → ℕ → ℕ → ℕ → Bool
-passed pool receiver class cell = nat_lt (next pool.links cell) 64 && not (sought pool receiver class (next pool.links cell))
+-- the cell before the first of these records that passes a test, if one does
+abbrev pub before : (ℕ → Bool) → ℕ → List ℕ → Option ℕ
+before test cell [] = None
+before test cell (x ∷ xs) = cond (test x) (Some cell) (before test x xs)
 
--- the cell before the first of these records that passes a test; if none does, the last record's cell
-abbrev pub before : (ℕ → Bool) → ℕ → List ℕ → ℕ
-before test cell [] = cell
-before test cell (x ∷ xs) = cond (test x) cell (before test x xs)
+-- the links after the record x behind a cell moved behind the cell `head`
+abbrev pub relinked : List (Option ℕ) → ℕ → ℕ → ℕ → List (Option ℕ)
+relinked links cell x head =
+    let one : List (Option ℕ) = slice_set links cell (next links x) in
+    let two : List (Option ℕ) = slice_set one x (next one head) in
+    slice_set two head (Some x)
 
--- the links after the record behind a cell moved behind the cell `head`
-abbrev pub relinked : List ℕ → ℕ → ℕ → List ℕ
-relinked links cell head =
-    let x : ℕ = next links cell in
-    slice_set (slice_set (slice_set links cell (next links x)) x (next links head)) head x
+-- the pool after that, where the record then holds this
+abbrev pub moved : Pool → ℕ → ℕ → ℕ → Option Message → ℕ → Pool
+moved pool cell x head m count =
+    record { records = slice_set pool.records x m; links = relinked pool.links cell x head; count = count }
 
--- the pool after that, where the record then holds this message
-abbrev pub moved : Pool → ℕ → ℕ → Message → ℕ → Pool
-moved pool cell head m count =
-    record { records = slice_set pool.records (next pool.links cell) m; links = relinked pool.links cell head; count = count }
+-- the message in the record after a cell, if there is such a record
+abbrev pub held_next : Pool → ℕ → Option Message
+held_next pool cell = option_and_then (held pool.records) (next pool.links cell)
+
+-- the pool after that record moved so; without such a record only the count is new
+abbrev pub moved_next : Pool → ℕ → ℕ → Option Message → ℕ → Pool
+moved_next pool cell head m count =
+    unwrap_or (option_map (λ x. moved pool cell x head m count) (next pool.links cell)) (record { records = pool.records; links = pool.links; count = count })

@@ -1,5 +1,4 @@
--- What to believe of the boxes, in the order of explaining; Inner is for inner facts and functions only, and Addressed for the law alone.
+-- What to believe of the boxes, in the order of explaining; Inner is for inner facts and functions only.
 pub mod Chains
 pub mod Meaning
 pub mod Inner
-pub mod Addressed

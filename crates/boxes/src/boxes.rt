@@ -2,9 +2,11 @@
 mod calls;
 mod pool;
 
-ghost use Rattle.std.specs.Prelude.{◌≡◌, ℕ, ◌+◌, ◌≤◌, true, length};
-ghost use Rattle.boxes.specs.Chains.{chain_of, held, pile_of};
-ghost use Rattle.boxes.specs.Inner.{Tight, signed};
+ghost use Rattle.std.specs.Prelude.{◌≡◌, ℕ, ◌+◌, ◌≤◌, length};
+ghost use Rattle.std.specs.List.{AllPass};
+ghost use Rattle.mail.specs.Messages.{addressed};
+ghost use Rattle.boxes.specs.Chains.{chain_of, pile_of};
+ghost use Rattle.boxes.specs.Inner.{Tight};
 
 use pool::Pool;
 
@@ -15,8 +17,8 @@ pub struct Boxes {
     ghost linked: { length pool.links ≡ 81 },
     // Each chain ends, and has only records of its receiver; chain 0 is the free one.
     ghost chained: { (q : ℕ) → q ≤ 16 → Tight pool q },
-    // A processor sent each message that waits.
-    ghost sent: { (i : ℕ) → signed (held pool.records i) ≡ true },
+    // Each message that waits is between processors.
+    ghost sent: { AllPass addressed (pile_of pool) },
     // As many messages wait as are counted, and all other records are free.
     ghost counted: { length (pile_of pool) ≡ pool.count },
     ghost spare: { length (chain_of pool 0) + pool.count ≡ 64 },

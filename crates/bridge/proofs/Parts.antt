@@ -1,12 +1,11 @@
--- A mail that is made of two: what each of them may do, the whole may. Assumes nothing.
+-- A mail that is made of two: what each of them may do, the whole may.
 use Rattle.std.proofs.Common.{◌≡◌, ℕ, min, Bool, true, false, cond, List, [], ◌∷◌, ◌++◌, Some, None, Ok, Err, Option, Result, nat_le, sym, refl, ap, ◌∙◌, arith}
 use Rattle.mail.specs.Mails.{Posted, Taken}
 use Rattle.mail.specs.Meaning.{Meaning}
 use Rattle.mail.specs.declared.message.Message.{Message}
 use Rattle.mail.specs.declared.refusal.MailRefusal.{MailRefusal}
-use Rattle.mail.proofs.Collections.{Tallied, tally-append, tallied-push, same-tallied, tallied-same, removed-tallied, tallied-removed}
-use Rattle.bridge.specs.Picks.{tallied-swap}
-use Rattle.bridge.specs.Bridges.{bridge_meaning, Routed, from_first, TakenFrom}
+use Rattle.mail.proofs.Collections.{Tallied, tally-append, tally-cons, tallied-push, same-tallied, tallied-same, removed-tallied, tallied-removed}
+use Rattle.bridge.specs.Bridges.{bridge_meaning, from_first, Routed, TakenFrom}
 use Rattle.bridge.specs.declared.bridge.Bridge.{Bridge}
 
 -- a mail as a part of a greater one: the rest of the messages there, and the other bound on its capacity
@@ -29,6 +28,8 @@ module _ {X Z : Type 0} {means : X → Meaning} {wholes : Z → Meaning} {whole 
     part.waits x' test,
     tally-append test (means x).waits part.rest,
     tally-append test (means x').waits part.rest,
+    tally-cons test m (means x').waits,
+    tally-cons test m (wholes (whole x')).waits,
   )
 
   -- a post to the part is one to the whole
@@ -53,11 +54,6 @@ module _ {X Z : Type 0} {means : X → Meaning} {wholes : Z → Meaning} {whole 
   taken-part x x' (Ok None) h = ap whole h
   taken-part x x' (Err e) h = ap whole h
 
--- one of two ways, by a test
-by-test : {P Q R : Type 0} (t : Bool) → (P → R) → (Q → R) → cond t P Q → R
-by-test true f g h = f h
-by-test false f g h = g h
-
 module _ {X Y : Type 0} (firsts : X → Meaning) (seconds : Y → Meaning) where
   abbrev of : ℕ → X → Y → Bridge X Y
   of split x y = record { first = x; second = y; split = split }
@@ -67,21 +63,32 @@ module _ {X Y : Type 0} (firsts : X → Meaning) (seconds : Y → Meaning) where
   first_part split y =
       record { rest = (seconds y).waits; waits = λ x test. refl; room = (seconds y).capacity; capacity = λ x. refl }
 
-  second-part : (split : ℕ) (x : X) → Part seconds (bridge_meaning firsts seconds) (of split x)
-  second-part split x =
-      record { rest = (firsts x).waits; waits = λ y. tallied-swap (firsts x).waits (seconds y).waits; room = (firsts x).capacity; capacity = λ y. omega arith }
+  second_part : (split : ℕ) (x : X) → Part seconds (bridge_meaning firsts seconds) (of split x)
+  second_part split x = record {
+    rest = (firsts x).waits;
+    waits = λ y test. omega (arith, tally-append test (firsts x).waits (seconds y).waits, tally-append test (seconds y).waits (firsts x).waits);
+    room = (firsts x).capacity;
+    capacity = λ y. omega arith;
+  }
 
-  -- the bridge's own clauses give those of every mail
-  pub posted-routed : (m : Message) (b b' : Bridge X Y) (r : Result (Unit {0}) MailRefusal)
+  -- so a post to one of the two is one to the bridge
+  posted-either : (t : Bool) (m : Message) (b b' : Bridge X Y) (r : Result (Unit {0}) MailRefusal)
+      → cond t (Posted firsts m b.first b'.first r × (b'.second ≡ b.second)) (Posted seconds m b.second b'.second r × (b'.first ≡ b.first))
+      → b'.split ≡ b.split → Posted (bridge_meaning firsts seconds) m b b' r
+  posted-either true m b b' r h split = rw (split, h.1) (posted-part (first_part b.split b.second) b.first b'.first m r h.0)
+  posted-either false m b b' r h split = rw (split, h.1) (posted-part (second_part b.split b.first) b.second b'.second m r h.0)
+
+  pub posted_to : (m : Message) (b b' : Bridge X Y) (r : Result (Unit {0}) MailRefusal)
       → Routed firsts seconds m b b' r → Posted (bridge_meaning firsts seconds) m b b' r
-  posted-routed m b b' r h = by-test (nat_le m.receiver b.split)
-      (λ own. rw (h.0, own.1) (posted-part (first_part b.split b.second) b.first b'.first m r own.0))
-      (λ own. rw (h.0, own.1) (posted-part (second-part b.split b.first) b.second b'.second m r own.0))
-      h.1
+  posted_to m b b' r h = posted-either (nat_le m.receiver b.split) m b b' r h.1 h.0
 
-  pub taken-from : (q k : ℕ) (b b' : Bridge X Y) (r : Result (Option Message) MailRefusal)
+  -- and a take from one of the two is one from it
+  taken-either : (t : Bool) (b b' : Bridge X Y) (r : Result (Option Message) MailRefusal)
+      → cond t (Taken firsts b.first b'.first r × (b'.second ≡ b.second)) (Taken seconds b.second b'.second r × (b'.first ≡ b.first))
+      → b'.split ≡ b.split → Taken (bridge_meaning firsts seconds) b b' r
+  taken-either true b b' r h split = rw (split, h.1) (taken-part (first_part b.split b.second) b.first b'.first r h.0)
+  taken-either false b b' r h split = rw (split, h.1) (taken-part (second_part b.split b.first) b.second b'.second r h.0)
+
+  pub taken_from : (q k : ℕ) (b b' : Bridge X Y) (r : Result (Option Message) MailRefusal)
       → TakenFrom firsts seconds q k b b' r → Taken (bridge_meaning firsts seconds) b b' r
-  taken-from q k b b' r h = by-test (from_first firsts seconds q k b)
-      (λ its. rw (h.0, its.1) (taken-part (first_part b.split b.second) b.first b'.first r its.0))
-      (λ its. rw (h.0, its.1) (taken-part (second-part b.split b.first) b.second b'.second r its.0))
-      h.1
+  taken_from q k b b' r h = taken-either (from_first firsts seconds q k b) b b' r h.1 h.0

@@ -1,3 +1,2 @@
--- What to believe of bridges; Picks is for the law alone.
+-- What to believe of bridges.
 pub mod Bridges
-pub mod Picks

@@ -1,43 +1,39 @@
--- The first message of a row that passes a test, by its place, and the row without it. Assumes nothing.
-use Rattle.std.proofs.Common.{◌≡◌, ℕ, zero, suc, ◌+◌, ◌-◌, ◌<◌, ◌≤◌, Bool, true, false, List, [], ◌∷◌, length, get_or, take, drop, Some, None, refl, ap, ◌∙◌, arith}
-use Rattle.std.proofs.Math.Seq.{paste}
-use Rattle.std.specs.List.{remove}
-use Rattle.std.proofs.lemmas.List.Edits.{take-paste}
-use Rattle.std.proofs.lemmas.List.{take-take, drop-take, length-drop}
-use Rattle.std.proofs.lemmas.Bool.{cond-true, cond-false}
+-- The first message of a row that passes a test, by its place, and the row without it.
+use Rattle.std.proofs.Common.{◌≡◌, ℕ, suc, ◌+◌, ◌<◌, Bool, true, false, cond, nat_lt, List, [], ◌∷◌, length, get_or, Some, None, refl, ap, ◌∙◌, ⊎_elim, arith}
+use Rattle.std.specs.List.{position, position_or_len, remove}
+use Rattle.std.proofs.lemmas.List.Edits.{get_or-remove_below, get_or-remove_above}
+use Rattle.std.proofs.lemmas.List.Folds.{find_at}
+use Rattle.std.proofs.lemmas.List.Quantifiers.{position-Some}
+use Rattle.std.proofs.lemmas.Option.{slice_get-get_or, slice_get_past}
+use Rattle.std.proofs.lemmas.Bool.{cases_Bool}
+use Rattle.std.proofs.lemmas.Bool.Decides.{nat_tests}
 use Rattle.mail.specs.Collections.{first, without}
 use Rattle.mail.specs.declared.message.Message.{Message}
-use Rattle.mail.specs.Messages.{blank}
+use Rattle.mail.proofs.Collections as collections
 
--- it stands at i if none before i passes
-pub first-at : (test : Message → Bool) (n : ℕ) (xs : List Message) (i : ℕ) → n ≤ length xs → i < n
-    → ((k : ℕ) → k < i → test (get_or xs k blank) ≡ false) → test (get_or xs i blank) ≡ true
-    → (first test (take n xs) ≡ Some (get_or xs i blank)) × (without test (take n xs) ≡ remove (take n xs) i)
-first-at test zero xs i long lt before here = absurd (omega arith)
-first-at test (suc n) [] i long lt before here = absurd (omega arith)
-first-at test (suc n) (x ∷ xs) zero long lt before here = (cond-true _ _ _ here, cond-true _ _ _ here)
-first-at test (suc n) (x ∷ xs) (suc i) long lt before here =
-    let later = first-at test n xs i (omega arith) (omega arith) (λ k h. before (suc k) (omega arith)) here in
-    let past = before 0 (omega arith) in
-    (cond-false _ _ _ past ∙ later.0, cond-false _ _ _ past ∙ ap (λ ys. x ∷ ys) later.1)
+without-at : (test : Message → Bool) (xs : List Message) → without test xs ≡ remove xs (position_or_len test xs)
+without-at test [] = refl
+without-at test (x ∷ xs) = ⊎_elim
+    (λ (t : test x ≡ true). rw t refl)
+    (λ (t : test x ≡ false).
+    let next : 1 + position_or_len test xs ≡ suc (position_or_len test xs) = omega arith in
+    rw (t, next) (ap (λ ys. x ∷ ys) (without-at test xs)))
+    (cases_Bool (test x))
+
+-- it stands where the search ends
+pub first-at : (test : Message → Bool) (xs : List Message) (i : ℕ) (d : Message) → position test xs ≡ Some i
+    → (first test xs ≡ Some (get_or xs i d)) × (without test xs ≡ remove xs i)
+first-at test xs i d h =
+    let at : position_or_len test xs ≡ i = grind (arith, nat_tests, h) in
+    (find_at test xs ∙ rw at (slice_get-get_or xs i d (position-Some test xs i d h).0), without-at test xs ∙ rw at refl)
 
 -- none passes
-pub first_past : (test : Message → Bool) (n : ℕ) (xs : List Message)
-    → ((k : ℕ) → k < n → test (get_or xs k blank) ≡ false) → first test (take n xs) ≡ None
-first_past test zero xs before = refl
-first_past test (suc n) [] before = refl
-first_past test (suc n) (x ∷ xs) before =
-    cond-false _ _ _ (before 0 (omega arith)) ∙ first_past test n xs (λ k h. before (suc k) (omega arith))
+pub first-none : (test : Message → Bool) (xs : List Message) → position test xs ≡ None → (first test xs ≡ None) × (without test xs ≡ xs)
+first-none test xs h =
+    let none : first test xs ≡ None = find_at test xs ∙ slice_get_past xs (position_or_len test xs) (grind (arith, nat_tests, h)) in
+    (none, (collections.first-none test xs none).1)
 
--- what stands after place i moves one place down
-pub closed : (xs : List Message) (n i : ℕ) → n ≤ length xs → i < n
-    → take (n - 1) (paste xs i (drop (i + 1) xs) (n - (i + 1))) ≡ remove (take n xs) i
-closed xs n i long lt =
-    let m : ℕ = n - (i + 1) in
-    let to : i + m ≡ n - 1 = omega arith in
-    let all : i + 1 + m ≡ n = omega arith in
-    let next : i + 1 ≡ suc i = omega arith in
-    let moved = take-paste xs i (drop (i + 1) xs) m (omega arith) (omega (arith, length-drop (i + 1) xs)) in
-    let below = take-take i n xs (omega arith) in
-    let above = drop-take (i + 1) m xs in
-    cc
+-- where the messages of a row without its i-th stood in it
+pub removed_from : (xs : List Message) (i k : ℕ) (d : Message) → i < length xs
+    → get_or (remove xs i) k d ≡ get_or xs (cond (nat_lt k i) k (k + 1)) d
+removed_from xs i k d lt = grind (arith, nat_tests, get_or-remove_below xs i d k, get_or-remove_above xs i d k)

@@ -1,5 +1,5 @@
 -- What waits in a line, in which order, and what its calls do to it.
-use Rattle.std.specs.Prelude.{Bool, cond, List, [], ◌∷◌, ◌++◌, length, take, nat_le}
+use Rattle.std.specs.Prelude.{Bool, cond, List, [], ◌∷◌, ◌++◌, length, nat_le}
 use Rattle.mail.specs.Collections.{first, without}
 use Rattle.mail.specs.Meaning.{Meaning}
 use Rattle.mail.specs.Messages.{wanted}
@@ -8,7 +8,7 @@ use Rattle.line.specs.declared.line.Line.{Line}
 
 -- the messages waiting, oldest first
 abbrev pub row : Line → List Message
-row line = take line.count line.places
+row line = line.waiting.items
 
 -- do sixteen wait?
 abbrev pub is_full : List Message → Bool

@@ -1,3 +1,5 @@
+pub mod Accepted
 pub mod Alike
 pub mod Collections
+pub mod Joined
 mod Returns

@@ -1,17 +1,16 @@
 -- Lists of messages, and how they are read: for each receiver as a collection.
-use Rattle.std.specs.Prelude.{◌≡◌, ℕ, ◌+◌, ◌≤◌, Bool, cond, ◌&&◌, List, [], ◌∷◌, ◌++◌, Some, None, Option, ◌==◌}
+use Rattle.std.specs.Prelude.{◌≡◌, ℕ, ◌≤◌, Bool, cond, ◌&&◌, List, [], ◌∷◌, ◌++◌, Option, ◌==◌}
+use Rattle.std.specs.List.{filter, find, count_by}
 use Rattle.mail.specs.Messages.{class_number}
 use Rattle.mail.specs.declared.message.Message.{Message}
 
 -- the part of a list that is for a receiver
 abbrev pub part : ℕ → List Message → List Message
-part receiver [] = []
-part receiver (m ∷ ms) = cond (m.receiver == receiver) (m ∷ part receiver ms) (part receiver ms)
+part receiver ms = filter (λ m. m.receiver == receiver) ms
 
 -- how many messages pass a test
 abbrev pub tally : (Message → Bool) → List Message → ℕ
-tally test [] = 0
-tally test (m ∷ ms) = cond (test m) 1 0 + tally test ms
+tally test ms = count_by test ms
 
 -- are two messages alike in all four numbers?
 abbrev pub alike : Message → Message → Bool
@@ -32,8 +31,7 @@ Same xs ys = (receiver : ℕ) → SamePart (part receiver xs) (part receiver ys)
 
 -- the first message of a list that passes a test
 abbrev pub first : (Message → Bool) → List Message → Option Message
-first test [] = None
-first test (m ∷ ms) = cond (test m) (Some m) (first test ms)
+first test ms = find test ms
 
 -- the list without that one
 abbrev pub without : (Message → Bool) → List Message → List Message

@@ -47,10 +47,6 @@ message receiver sender class node = record { receiver = receiver; sender = send
 abbrev pub composed : ℕ → ℕ → ℕ → ℕ → Result Message MailRefusal
 composed receiver sender class node = cond (sendable receiver sender class) (Ok (message receiver sender class node)) (Err OutOfRange)
 
--- leave to ask, or the same refusal
-abbrev pub asked : ℕ → ℕ → Result (Unit {0}) MailRefusal
-asked receiver class = cond (askable receiver class) (Ok tt) (Err OutOfRange)
-
 -- is this message for that receiver and of that class?
 abbrev pub wanted : ℕ → ℕ → Message → Bool
 wanted receiver class m = m.receiver == receiver && class_number m.class == class
@@ -58,7 +54,3 @@ wanted receiver class m = m.receiver == receiver && class_number m.class == clas
 -- are its receiver and its sender processors?
 abbrev pub addressed : Message → Bool
 addressed m = is_processor m.receiver && is_processor m.sender
-
--- what an empty place holds, and what a read past the end of a list would give
-abbrev pub blank : Message
-blank = record { receiver = 0; sender = 0; class = Request; node = 0 }

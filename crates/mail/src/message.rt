@@ -1,15 +1,19 @@
 // What waits in a mail.
 ghost use Rattle.std.specs.Prelude.{◌≡◌};
-ghost use Rattle.mail.specs.Messages.{class_number, classed, wanted, composed, asked, processor_checked};
+ghost use Rattle.mail.specs.Messages.{class_number, classed, wanted, composed, processor_checked};
 
 use crate::refusal::MailRefusal;
 
-#[derive(Clone, Copy, Debug, PartialEq, Eq)]
+// The processors are numbered from 1 to this.
+pub const PROCESSORS: u8 = 16;
+
+#[derive(Clone, Copy, Debug, Default, PartialEq, Eq)]
 pub enum Class {
     // Asks the receiver for work.
-    Request,
+    #[default]
+    Request = 1,
     // Answers a request.
-    Reply,
+    Reply = 2,
 }
 
 impl Class {
@@ -17,16 +21,17 @@ impl Class {
     pub fn number(self) -> u8
         ensures { result ≡ class_number self }
     {
-        match self {
-            Class::Request => 1,
-            Class::Reply => 2,
-        }
+        self as u8
     }
+}
 
-    // The class of a number, refused if it has none.
-    pub fn from_number(number: u8) -> Result<Class, MailRefusal>
-        ensures { result ≡ classed number }
-    {
+// The class of a number, refused if it has none.
+impl TryFrom<u8> for Class {
+    type Error = MailRefusal;
+
+    ghost try_from_gives = { λ number answer. answer ≡ classed number };
+
+    fn try_from(number: u8) -> Result<Class, MailRefusal> {
         match number {
             1 => Ok(Class::Request),
             2 => Ok(Class::Reply),
@@ -35,7 +40,7 @@ impl Class {
     }
 }
 
-#[derive(Clone, Copy, Debug, PartialEq, Eq)]
+#[derive(Clone, Copy, Debug, Default, PartialEq, Eq)]
 pub struct Message {
     // Whom it is for and who sent it: processors, from 1 to 16 wherever a message waits.
     pub receiver: u8,
@@ -44,14 +49,6 @@ pub struct Message {
     pub node: u16,
 }
 
-// What an empty place holds.
-pub const BLANK: Message = Message {
-    receiver: 0,
-    sender: 0,
-    class: Class::Request,
-    node: 0,
-};
-
 impl Message {
     // The message of these numbers, refused if one is out of range.
     pub fn new(receiver: u8, sender: u8, class: u8, node: u16) -> Result<Message, MailRefusal>
@@ -59,7 +56,7 @@ impl Message {
     {
         check_processor(receiver)?;
         check_processor(sender)?;
-        let class = Class::from_number(class)?;
+        let class = Class::try_from(class)?;
         Ok(Message {
             receiver,
             sender,
@@ -77,20 +74,11 @@ impl Message {
 }
 
 // Refuses a number that is no processor's.
-fn check_processor(number: u8) -> Result<(), MailRefusal>
+pub(crate) fn check_processor(number: u8) -> Result<(), MailRefusal>
     ensures { result ≡ processor_checked number }
 {
     match number {
-        1..=16 => Ok(()),
+        1..=PROCESSORS => Ok(()),
         _ => Err(MailRefusal::OutOfRange),
     }
-}
-
-// Refuses a take whose receiver or class is out of range.
-pub fn check_asked(receiver: u8, class: u8) -> Result<(), MailRefusal>
-    ensures { result ≡ asked receiver class }
-{
-    check_processor(receiver)?;
-    Class::from_number(class)?;
-    Ok(())
 }

@@ -5,9 +5,9 @@ ghost use Rattle.mail.specs.Refusals.{refusal_number};
 #[derive(Clone, Copy, Debug, PartialEq, Eq)]
 pub enum MailRefusal {
     // The mail has no place for the message.
-    Full,
+    Full = 17,
     // The receiver or the sender is no processor, or the class is none.
-    OutOfRange,
+    OutOfRange = 18,
 }
 
 impl MailRefusal {
@@ -15,9 +15,6 @@ impl MailRefusal {
     pub fn number(self) -> u8
         ensures { result ≡ refusal_number self }
     {
-        match self {
-            MailRefusal::Full => 17,
-            MailRefusal::OutOfRange => 18,
-        }
+        self as u8
     }
 }

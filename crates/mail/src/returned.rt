@@ -16,8 +16,5 @@ pub fn post_and_take_back<M: Mail>(
     ensures { Returned M.meaning receiver sender class node mail.old mail.new result }
 {
     mail.post(receiver, sender, class, node)?;
-    match mail.take(receiver, class)? {
-        Some(message) => Ok(message),
-        None => unreachable(),
-    }
+    Ok(mail.take(receiver, class)?.unwrap())
 }

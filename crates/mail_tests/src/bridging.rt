@@ -1,10 +1,11 @@
 // Bridges: which mail a message goes to, what the other one held before, and bridges of bridges.
 use crate::Shut;
-use crate::steps::{Answer, Step, empty, fill, play};
+use crate::steps::{Step, empty, fill, play};
 use boxes::Boxes;
 use bridge::Bridge;
 use line::Line;
 use mail::Mail;
+use mail::MailRefusal::Full;
 use std::process::Abort;
 
 // Where two posts, to the processors 8 and 9, went: how many to the first mail, how many to the second.
@@ -18,8 +19,8 @@ fn parted(rt: &impl Abort, split: u8) -> (u16, u16) {
         rt,
         &mut bridge,
         &[
-            Step::Post(8, 1, 1, 0, 0),
-            Step::Post(9, 1, 1, 0, 0),
+            Step::Post(8, 1, 1, 0, Ok(())),
+            Step::Post(9, 1, 1, 0, Ok(())),
             Step::Waiting(2),
         ],
     );
@@ -28,7 +29,7 @@ fn parted(rt: &impl Abort, split: u8) -> (u16, u16) {
 
 #[test]
 fn split_parts_the_receivers(rt: HostRuntime) {
-    for (split, first, second) in &[
+    for (split, first, second) in [
         (0, 0, 2),
         (7, 0, 2),
         (8, 1, 1),
@@ -36,7 +37,7 @@ fn split_parts_the_receivers(rt: HostRuntime) {
         (16, 2, 0),
         (255, 2, 0),
     ] {
-        assert_eq!(rt; parted(&rt, *split), (*first, *second));
+        assert_eq!(rt; parted(&rt, split), (first, second));
     }
 }
 
@@ -48,12 +49,18 @@ fn what_the_other_held_comes_first(rt: HostRuntime) {
     play(
         &rt,
         &mut first,
-        &[Step::Post(3, 1, 1, 0, 0), Step::Post(12, 1, 1, 0, 0)],
+        &[
+            Step::Post(3, 1, 1, 0, Ok(())),
+            Step::Post(12, 1, 1, 0, Ok(())),
+        ],
     );
     play(
         &rt,
         &mut second,
-        &[Step::Post(3, 2, 1, 0, 0), Step::Post(12, 2, 1, 0, 0)],
+        &[
+            Step::Post(3, 2, 1, 0, Ok(())),
+            Step::Post(12, 2, 1, 0, Ok(())),
+        ],
     );
     let mut bridge = Bridge {
         first,
@@ -65,16 +72,16 @@ fn what_the_other_held_comes_first(rt: HostRuntime) {
         &mut bridge,
         &[
             Step::Waiting(4),
-            Step::Post(3, 5, 1, 0, 0),
-            Step::Post(12, 5, 1, 0, 0),
-            Step::Take(3, 1, Answer::From(2, 0)),
-            Step::Take(3, 1, Answer::From(1, 0)),
-            Step::Take(3, 1, Answer::From(5, 0)),
-            Step::Take(3, 1, Answer::Nothing),
-            Step::Take(12, 1, Answer::From(1, 0)),
-            Step::Take(12, 1, Answer::From(5, 0)),
-            Step::Take(12, 1, Answer::From(2, 0)),
-            Step::Take(12, 1, Answer::Nothing),
+            Step::Post(3, 5, 1, 0, Ok(())),
+            Step::Post(12, 5, 1, 0, Ok(())),
+            Step::Take(3, 1, Ok(Some((2, 0)))),
+            Step::Take(3, 1, Ok(Some((1, 0)))),
+            Step::Take(3, 1, Ok(Some((5, 0)))),
+            Step::Take(3, 1, Ok(None)),
+            Step::Take(12, 1, Ok(Some((1, 0)))),
+            Step::Take(12, 1, Ok(Some((5, 0)))),
+            Step::Take(12, 1, Ok(Some((2, 0)))),
+            Step::Take(12, 1, Ok(None)),
             Step::Waiting(0),
         ],
     );
@@ -101,9 +108,9 @@ fn bridge_of_a_bridge(rt: HostRuntime) {
         &rt,
         &mut outer,
         &[
-            Step::Post(2, 1, 1, 0, 17),
-            Step::Post(4, 1, 1, 0, 17),
-            Step::Post(5, 1, 1, 0, 17),
+            Step::Post(2, 1, 1, 0, Err(Full)),
+            Step::Post(4, 1, 1, 0, Err(Full)),
+            Step::Post(5, 1, 1, 0, Err(Full)),
             Step::Waiting(96),
         ],
     );
@@ -113,8 +120,8 @@ fn bridge_of_a_bridge(rt: HostRuntime) {
         &mut outer,
         &[
             Step::Waiting(0),
-            Step::Post(16, 1, 2, 1023, 0),
-            Step::Take(16, 2, Answer::From(1, 1023)),
+            Step::Post(16, 1, 2, 1023, Ok(())),
+            Step::Take(16, 2, Ok(Some((1, 1023)))),
         ],
     );
 }
@@ -133,10 +140,10 @@ fn bridge_over_a_shut_mail(rt: HostRuntime) {
         &rt,
         &mut bridge,
         &[
-            Step::Post(5, 1, 1, 0, 17),
+            Step::Post(5, 1, 1, 0, Err(Full)),
             Step::Waiting(16),
-            Step::Take(5, 1, Answer::Nothing),
-            Step::Take(1, 1, Answer::From(16, 0)),
+            Step::Take(5, 1, Ok(None)),
+            Step::Take(1, 1, Ok(Some((16, 0)))),
             Step::Waiting(15),
         ],
     );

@@ -1,10 +1,11 @@
 // Each mail filled to its last place, refused, and emptied.
 use crate::Shut;
-use crate::steps::{Answer, Step, empty, fill, play};
+use crate::steps::{Step, empty, fill, play};
 use boxes::Boxes;
 use bridge::Bridge;
 use line::Line;
 use mail::Mail;
+use mail::MailRefusal::{Full, OutOfRange};
 use std::process::Abort;
 
 // Fills the mail, sees it refuse a message to anyone, takes one out, puts one in, and empties it.
@@ -15,8 +16,8 @@ fn fills_and_empties<M: Mail>(rt: &impl Abort, mail: &mut M, places: u16) {
         rt,
         mail,
         &[
-            Step::Post(1, 16, 1, 0, 17),
-            Step::Post(16, 1, 2, 0, 17),
+            Step::Post(1, 16, 1, 0, Err(Full)),
+            Step::Post(16, 1, 2, 0, Err(Full)),
             Step::Waiting(places),
         ],
     );
@@ -25,8 +26,8 @@ fn fills_and_empties<M: Mail>(rt: &impl Abort, mail: &mut M, places: u16) {
         rt,
         mail,
         &[
-            Step::Post(9, 9, 2, 9, 0),
-            Step::Post(9, 9, 2, 9, 17),
+            Step::Post(9, 9, 2, 9, Ok(())),
+            Step::Post(9, 9, 2, 9, Err(Full)),
             Step::Waiting(places),
         ],
     );
@@ -36,8 +37,8 @@ fn fills_and_empties<M: Mail>(rt: &impl Abort, mail: &mut M, places: u16) {
         mail,
         &[
             Step::Waiting(0),
-            Step::Take(1, 1, Answer::Nothing),
-            Step::Take(16, 2, Answer::Nothing),
+            Step::Take(1, 1, Ok(None)),
+            Step::Take(16, 2, Ok(None)),
         ],
     );
 }
@@ -52,7 +53,7 @@ fn boxes_hold_sixty_four(rt: HostRuntime) {
     let mut boxes = Boxes::new();
     fills_and_empties(&rt, &mut boxes, 64);
     fill(&rt, &mut boxes, 7, 7, 64);
-    play(&rt, &mut boxes, &[Step::Post(8, 1, 1, 0, 17)]);
+    play(&rt, &mut boxes, &[Step::Post(8, 1, 1, 0, Err(Full))]);
     assert_eq!(rt; empty(&rt, &mut boxes), 64);
 }
 
@@ -65,14 +66,14 @@ fn bridge_holds_both(rt: HostRuntime) {
     };
     assert_eq!(rt; bridge.capacity(), 16);
     fill(&rt, &mut bridge, 1, 8, 16);
-    play(&rt, &mut bridge, &[Step::Post(8, 1, 1, 0, 17)]);
+    play(&rt, &mut bridge, &[Step::Post(8, 1, 1, 0, Err(Full))]);
     fill(&rt, &mut bridge, 9, 16, 64);
     play(
         &rt,
         &mut bridge,
         &[
-            Step::Post(9, 1, 1, 0, 17),
-            Step::Post(1, 1, 1, 0, 17),
+            Step::Post(9, 1, 1, 0, Err(Full)),
+            Step::Post(1, 1, 1, 0, Err(Full)),
             Step::Waiting(80),
         ],
     );
@@ -88,11 +89,11 @@ fn shut_holds_nothing(rt: HostRuntime) {
         &rt,
         &mut shut,
         &[
-            Step::Post(1, 2, 1, 0, 17),
-            Step::Post(1, 17, 1, 0, 18),
+            Step::Post(1, 2, 1, 0, Err(Full)),
+            Step::Post(1, 17, 1, 0, Err(OutOfRange)),
             Step::Waiting(0),
-            Step::Take(1, 1, Answer::Nothing),
-            Step::Take(1, 3, Answer::Refused(18)),
+            Step::Take(1, 1, Ok(None)),
+            Step::Take(1, 3, Err(OutOfRange)),
         ],
     );
 }

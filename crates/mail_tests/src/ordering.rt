@@ -1,6 +1,6 @@
 // Which message each mail takes.
 use crate::Shut;
-use crate::steps::{Answer, Step, play};
+use crate::steps::{Step, play};
 use boxes::Boxes;
 use bridge::Bridge;
 use line::Line;
@@ -8,12 +8,12 @@ use mail::{Class, MailRefusal, Message, post_and_take_back};
 
 // Three requests and two replies to processor 2, with a request to processor 3 among them.
 const POSTS: [Step; 6] = [
-    Step::Post(2, 4, 1, 0, 0),
-    Step::Post(2, 5, 2, 31, 0),
-    Step::Post(3, 6, 1, 0, 0),
-    Step::Post(2, 7, 1, 0, 0),
-    Step::Post(2, 8, 2, 65535, 0),
-    Step::Post(2, 9, 1, 0, 0),
+    Step::Post(2, 4, 1, 0, Ok(())),
+    Step::Post(2, 5, 2, 31, Ok(())),
+    Step::Post(3, 6, 1, 0, Ok(())),
+    Step::Post(2, 7, 1, 0, Ok(())),
+    Step::Post(2, 8, 2, 65535, Ok(())),
+    Step::Post(2, 9, 1, 0, Ok(())),
 ];
 
 #[test]
@@ -24,14 +24,14 @@ fn line_takes_the_oldest(rt: HostRuntime) {
         &rt,
         &mut line,
         &[
-            Step::Take(2, 1, Answer::From(4, 0)),
-            Step::Take(2, 2, Answer::From(5, 31)),
-            Step::Take(2, 1, Answer::From(7, 0)),
-            Step::Take(3, 2, Answer::Nothing),
-            Step::Take(3, 1, Answer::From(6, 0)),
-            Step::Take(2, 1, Answer::From(9, 0)),
-            Step::Take(2, 1, Answer::Nothing),
-            Step::Take(2, 2, Answer::From(8, 65535)),
+            Step::Take(2, 1, Ok(Some((4, 0)))),
+            Step::Take(2, 2, Ok(Some((5, 31)))),
+            Step::Take(2, 1, Ok(Some((7, 0)))),
+            Step::Take(3, 2, Ok(None)),
+            Step::Take(3, 1, Ok(Some((6, 0)))),
+            Step::Take(2, 1, Ok(Some((9, 0)))),
+            Step::Take(2, 1, Ok(None)),
+            Step::Take(2, 2, Ok(Some((8, 65535)))),
             Step::Waiting(0),
         ],
     );
@@ -45,14 +45,14 @@ fn boxes_take_the_newest(rt: HostRuntime) {
         &rt,
         &mut boxes,
         &[
-            Step::Take(2, 1, Answer::From(9, 0)),
-            Step::Take(2, 2, Answer::From(8, 65535)),
-            Step::Take(2, 1, Answer::From(7, 0)),
-            Step::Take(3, 2, Answer::Nothing),
-            Step::Take(3, 1, Answer::From(6, 0)),
-            Step::Take(2, 1, Answer::From(4, 0)),
-            Step::Take(2, 1, Answer::Nothing),
-            Step::Take(2, 2, Answer::From(5, 31)),
+            Step::Take(2, 1, Ok(Some((9, 0)))),
+            Step::Take(2, 2, Ok(Some((8, 65535)))),
+            Step::Take(2, 1, Ok(Some((7, 0)))),
+            Step::Take(3, 2, Ok(None)),
+            Step::Take(3, 1, Ok(Some((6, 0)))),
+            Step::Take(2, 1, Ok(Some((4, 0)))),
+            Step::Take(2, 1, Ok(None)),
+            Step::Take(2, 2, Ok(Some((5, 31)))),
             Step::Waiting(0),
         ],
     );
@@ -60,12 +60,12 @@ fn boxes_take_the_newest(rt: HostRuntime) {
 
 // Two messages alike in everything are two messages.
 const TWINS: [Step; 6] = [
-    Step::Post(2, 4, 1, 7, 0),
-    Step::Post(2, 4, 1, 7, 0),
+    Step::Post(2, 4, 1, 7, Ok(())),
+    Step::Post(2, 4, 1, 7, Ok(())),
     Step::Waiting(2),
-    Step::Take(2, 1, Answer::From(4, 7)),
-    Step::Take(2, 1, Answer::From(4, 7)),
-    Step::Take(2, 1, Answer::Nothing),
+    Step::Take(2, 1, Ok(Some((4, 7)))),
+    Step::Take(2, 1, Ok(Some((4, 7)))),
+    Step::Take(2, 1, Ok(None)),
 ];
 
 #[test]
@@ -106,8 +106,8 @@ fn posted_and_taken_back(rt: HostRuntime) {
         &rt,
         &mut line,
         &[
-            Step::Take(2, 2, Answer::From(8, 65535)),
-            Step::Take(2, 2, Answer::From(1, 77)),
+            Step::Take(2, 2, Ok(Some((8, 65535)))),
+            Step::Take(2, 2, Ok(Some((1, 77)))),
             Step::Waiting(4),
         ],
     );

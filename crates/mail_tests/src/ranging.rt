@@ -1,26 +1,27 @@
-// Numbers out of range: refused with 18 before anything else.
-use crate::steps::{Answer, Step, empty, fill, play};
+// Numbers out of range: refused before anything else, with a refusal of their own.
+use crate::steps::{Step, empty, fill, play};
 use boxes::Boxes;
 use bridge::Bridge;
 use line::Line;
 use mail::Mail;
+use mail::MailRefusal::{Full, OutOfRange};
 use std::process::Abort;
 
 const OUTSIDE: [Step; 14] = [
-    Step::Post(0, 1, 1, 0, 18),
-    Step::Post(17, 1, 1, 0, 18),
-    Step::Post(255, 1, 1, 0, 18),
-    Step::Post(1, 0, 1, 0, 18),
-    Step::Post(1, 17, 1, 0, 18),
-    Step::Post(1, 255, 1, 0, 18),
-    Step::Post(1, 1, 0, 0, 18),
-    Step::Post(1, 1, 3, 0, 18),
-    Step::Post(0, 0, 0, 0, 18),
-    Step::Take(0, 1, Answer::Refused(18)),
-    Step::Take(17, 1, Answer::Refused(18)),
-    Step::Take(255, 2, Answer::Refused(18)),
-    Step::Take(1, 0, Answer::Refused(18)),
-    Step::Take(1, 3, Answer::Refused(18)),
+    Step::Post(0, 1, 1, 0, Err(OutOfRange)),
+    Step::Post(17, 1, 1, 0, Err(OutOfRange)),
+    Step::Post(255, 1, 1, 0, Err(OutOfRange)),
+    Step::Post(1, 0, 1, 0, Err(OutOfRange)),
+    Step::Post(1, 17, 1, 0, Err(OutOfRange)),
+    Step::Post(1, 255, 1, 0, Err(OutOfRange)),
+    Step::Post(1, 1, 0, 0, Err(OutOfRange)),
+    Step::Post(1, 1, 3, 0, Err(OutOfRange)),
+    Step::Post(0, 0, 0, 0, Err(OutOfRange)),
+    Step::Take(0, 1, Err(OutOfRange)),
+    Step::Take(17, 1, Err(OutOfRange)),
+    Step::Take(255, 2, Err(OutOfRange)),
+    Step::Take(1, 0, Err(OutOfRange)),
+    Step::Take(1, 3, Err(OutOfRange)),
 ];
 
 // Refused when nothing waits and when no place is left, and nothing is altered.
@@ -32,7 +33,7 @@ fn refuses_outside<M: Mail>(rt: &impl Abort, mail: &mut M, places: u16) {
     play(
         rt,
         mail,
-        &[Step::Waiting(places), Step::Post(1, 1, 1, 0, 17)],
+        &[Step::Waiting(places), Step::Post(1, 1, 1, 0, Err(Full))],
     );
     assert_eq!(rt; empty(rt, mail), places);
 }
@@ -59,4 +60,10 @@ fn every_mail_refuses_outside(rt: HostRuntime) {
         },
         16,
     );
+}
+
+#[test]
+fn refusals_have_their_numbers(rt: HostRuntime) {
+    assert_eq!(rt; Full.number(), 17);
+    assert_eq!(rt; OutOfRange.number(), 18);
 }

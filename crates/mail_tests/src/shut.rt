@@ -2,7 +2,7 @@
 ghost use Rattle.std.specs.Prelude.{true, [], None};
 ghost use Rattle.std.proofs.Common.{rules};
 
-use mail::{Mail, MailRefusal, Message, check_asked};
+use mail::{Asked, Mail, MailRefusal, Message};
 
 #[derive(Drop)]
 pub struct Shut;
@@ -26,7 +26,7 @@ impl Mail for Shut {
     }
 
     fn take(&mut self, receiver: u8, class: u8) -> Result<Option<Message>, MailRefusal> {
-        check_asked(receiver, class)?;
+        Asked::new(receiver, class)?;
         Ok(None)
     }
 }

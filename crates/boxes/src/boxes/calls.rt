@@ -9,11 +9,11 @@ ghost use Rattle.boxes.specs.Inner.{before, sought};
 ghost use Rattle.std.proofs.Common.{arith};
 ghost use Rattle.std.proofs.lemmas.Bool.{lt-leb};
 ghost use Rattle.mail.proofs.Collections.{first-pickable};
-ghost use Rattle.boxes.specs.Addressed.{pile-addressed};
+ghost use Rattle.std.proofs.lemmas.List.Elements.{recursion_from_All};
 
 use crate::boxes::Boxes;
-use crate::boxes::pool::{FREE, Pool, RECORDS};
-use mail::{Mail, MailRefusal, Message, check_asked};
+use crate::boxes::pool::{Cell, Pool, RECORDS};
+use mail::{Asked, Mail, MailRefusal, Message};
 
 impl Boxes {
     // Boxes in which nothing waits.
@@ -30,16 +30,18 @@ impl Boxes {
         self.pool.count as usize >= RECORDS
     }
 
-    // The cell before the newest message for that receiver and class, or the last cell of the chain.
-    fn find(&self, receiver: u8, class: u8) -> usize
-        requires { receiver ≤ 16 }
-        ensures { result ≡ before (sought self.now.pool receiver class) (64 + receiver) (chain_of self.now.pool receiver) }
+    // The cell before the newest message that is asked for.
+    fn find(&self, asked: Asked) -> Option<Cell>
+        ensures { result ≡ before (sought self.now.pool asked) (64 + asked.receiver) (chain_of self.now.pool asked.receiver) }
     {
-        let mut cell = FREE + receiver as usize;
-        while self.pool.passes(cell, receiver, class) {
-            cell = self.pool.links[cell] as usize;
+        let mut cell = Cell::head(asked.receiver);
+        while let Some(at) = self.pool.after(cell) {
+            if self.pool.holds(at, asked) {
+                return Some(cell);
+            }
+            cell = Cell::from(at);
         }
-        cell
+        None
     }
 }
 
@@ -49,7 +51,7 @@ impl Mail for Boxes {
     ghost lawful = { λ mail.
         record {
           bounded = omega arith;
-          ranged = pile-addressed mail;
+          ranged = recursion_from_All _ (pile mail) mail.sent;
           accepts = λ m h. lt-leb 64 (length (pile mail)) h;
           choice = first-pickable (pile mail);
         } };
@@ -83,11 +85,10 @@ impl Mail for Boxes {
         ensures newest { result ≡ take_answer (askable receiver class) (first (wanted receiver class) (box self.old receiver)) }
         ensures order { (q : ℕ) → 1 ≤ q → q ≤ 16 → box self.new q ≡ box_taken result receiver class q (box self.old q) }
     {
-        check_asked(receiver, class)?;
-        let cell = self.find(receiver, class);
-        if self.pool.links[cell] as usize >= RECORDS {
+        let asked = Asked::new(receiver, class)?;
+        let Some(cell) = self.find(asked) else {
             return Ok(None);
-        }
-        Ok(Some(self.pool.remove(cell)))
+        };
+        Ok(self.pool.remove(cell))
     }
 }

@@ -1,25 +1,22 @@
-use Rattle.std.proofs.Common.{length, sym, ap, ◌∙◌, arith, rules}
-use Rattle.boxes.specs.Chains.{next}
-use Rattle.boxes.specs.Inner.{owner, sought}
-use Rattle.boxes.proofs.Searches.{chain_next, tight-next, search-on, search-ends}
+use Rattle.std.proofs.Common.{length, sym, ap, subst, arith}
+use Rattle.boxes.specs.Chains.{chain}
+use Rattle.boxes.proofs.Searches.{Searching, search-chain, search-on, search-ends}
 use Rattle.boxes.proofs.boxes.Boxes.find.Goals as goal
 
-pub loop-cell-smaller : goal.loop-cell-smaller
-loop-cell-smaller c =
-    let p = c.args.self.now.pool in
-    omega (arith, ap length (chain_next (next p.links) (owner p.records) c.args.receiver c.loop-cell.cell c.loop-cell.invariant.1 (search rules)))
+pub returns-then-holds : goal.returns-then-holds
+returns-then-holds c =
+    search-ends c.args.self.now c.args.asked c.loop-at.cell c.in-Some.at c.loop-at.invariant c.in-Some.ensures c.if-holds.ensures
 
-pub loop-cell-preserved : goal.loop-cell-preserved
-loop-cell-preserved c =
-    let p = c.args.self.now.pool in (
-      search rules,
-      tight-next (next p.links) (owner p.records) c.args.receiver c.loop-cell.cell c.loop-cell.invariant.1 (search rules),
-      sym (search-on (next p.links) (owner p.records) c.args.receiver c.loop-cell.cell c.loop-cell.invariant.1
-          (sought p c.args.receiver c.args.class) (search rules) (search rules)) ∙ c.loop-cell.invariant.2,
-    )
+pub loop-at-smaller : goal.loop-at-smaller
+loop-at-smaller c = rw c.from-cell.ensures (omega (
+  arith,
+  ap length (search-chain c.args.self.now c.args.asked c.loop-at.cell c.in-Some.at c.loop-at.invariant c.in-Some.ensures),
+))
+
+pub loop-at-preserved : goal.loop-at-preserved
+loop-at-preserved c = subst (Searching c.args.self.now c.args.asked) (sym c.from-cell.ensures)
+    (search-on c.args.self.now c.args.asked c.loop-at.cell c.in-Some.at c.loop-at.invariant c.in-Some.ensures c.if-holds.ensures)
 
 pub returns : goal.returns
-returns c =
-    let p = c.args.self.now.pool in
-    sym (search-ends (next p.links) (owner p.records) c.args.receiver c.loop-cell.cell c.loop-cell.invariant.1
-    (sought p c.args.receiver c.args.class) (search rules)) ∙ c.loop-cell.invariant.2
+unfolding chain
+returns c = rw (← c.in_default.ensures) at c.loop-at.invariant.onward

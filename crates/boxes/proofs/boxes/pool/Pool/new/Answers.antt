@@ -1,8 +1,11 @@
-use Rattle.std.proofs.Common.{suc, ◌+◌, set, replicate, ap, ◌∙◌, add-one, arith}
-use Rattle.boxes.proofs.Fresh.{fill_more}
+use Rattle.std.proofs.Common.{ℕ, ◌<◌, ◌≡◌, get_or, None, rules}
+use Rattle.std.proofs.lemmas.List.FromFn.{fill_by_all}
+use Rattle.boxes.specs.Inner.{first_link}
 use Rattle.boxes.proofs.boxes.pool.Pool.new.Goals as goal
 
-pub loop-i-preserved : goal.loop-i-preserved
-loop-i-preserved c =
-    let i = c.loop-i.i in
-    ap (λ xs. set xs i (i + 1)) c.loop-i.invariant ∙ rw (add-one i) (fill_more (replicate 81 255) 1 i (suc i) (omega arith) (omega arith))
+pub returns : goal.returns
+returns c =
+    let made = c.from_fn.ensures.items in
+    let each : (k : ℕ) → k < 81 → get_or c.from_fn.result k None ≡ first_link k =
+    λ k h. let call = (made.at k None h).2.met in search (rules, call) in
+    rw (fill_by_all first_link c.from_fn.result 81 None made.long each)

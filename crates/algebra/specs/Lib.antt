@@ -3,3 +3,4 @@ pub mod Faults
 pub mod Fork
 pub mod Leaf
 pub mod Meaning
+pub mod Texts

@@ -1,8 +1,10 @@
 // Why a node has no value.
-ghost use Rattle.std.specs.Prelude.{◌≡◌};
+ghost use Rattle.std.specs.Prelude.{◌≡◌, Some};
 ghost use Rattle.algebra.specs.Faults.{fault_layer, fault_cause, fault_node, fault_frame};
+ghost use Rattle.algebra.specs.Texts.{fault_text};
 
 use frame::Cause;
+use std::fmt;
 
 #[derive(Clone, Copy, PartialEq, Eq, Debug)]
 pub enum Fault {
@@ -30,9 +32,9 @@ impl Fault {
         ensures { result ≡ fault_cause self }
     {
         match self {
-            Fault::BadFrame { cause, .. } => cause,
-            Fault::LeafJoin { cause, .. } => cause,
-            Fault::ForkJoin { cause, .. } => cause,
+            Fault::BadFrame { cause, .. }
+            | Fault::LeafJoin { cause, .. }
+            | Fault::ForkJoin { cause, .. } => cause,
         }
     }
 
@@ -41,9 +43,9 @@ impl Fault {
         ensures { result ≡ fault_node self }
     {
         match self {
-            Fault::BadFrame { node, .. } => node,
-            Fault::LeafJoin { node, .. } => node,
-            Fault::ForkJoin { node, .. } => node,
+            Fault::BadFrame { node, .. }
+            | Fault::LeafJoin { node, .. }
+            | Fault::ForkJoin { node, .. } => node,
         }
     }
 
@@ -52,9 +54,21 @@ impl Fault {
         ensures { result ≡ fault_frame self }
     {
         match self {
-            Fault::BadFrame { frame, .. } => Some(frame),
-            Fault::LeafJoin { frame, .. } => Some(frame),
+            Fault::BadFrame { frame, .. } | Fault::LeafJoin { frame, .. } => Some(frame),
             Fault::ForkJoin { .. } => None,
+        }
+    }
+}
+
+impl fmt::Display for Fault {
+    ghost output = { λ x. Some (fault_text x) };
+
+    fn fmt<W: fmt::Write>(&self, f: &mut fmt::Formatter<W>) -> fmt::Result {
+        let (layer, cause, node) = (self.layer(), self.cause().number, self.node());
+        write!(f, "fault layer {layer} cause {cause} node {node}")?;
+        match self.frame() {
+            Some(frame) => write!(f, " frame {frame}"),
+            None => Ok(()),
         }
     }
 }

@@ -1,5 +1,5 @@
 -- The cases come out as written.
-use Rattle.std.proofs.Common.{◌≡◌, ℕ, false, T, [], ◌∷◌, pos, Ok, refl, lit≤}
+use Rattle.std.proofs.Common.{◌≡◌, ℕ, false, T, List, [], ◌∷◌, pos, Some, Ok, refl}
 use lib.Ieee.{Float, fin, binary32, of_int, add, mul, sum, round, units, odd, size, span, climb}
 use lib.Count.{count_trailing_zeros}
 use Rattle.std.specs.List.{AllByRecursion}
@@ -9,24 +9,30 @@ use Rattle.frame.specs.Speeds.{speeds}
 use Rattle.figures.specs.Float.{float, floated, added}
 use Rattle.figures.specs.Trail.{trail}
 use Rattle.figures.specs.declared.float.Sums.{Sums}
+use Rattle.frame.specs.Meaning.{Frames}
+use Rattle.algebra.specs.Leaf.{leaf_outcome}
+use Rattle.algebra.specs.Meaning.{Rules}
+use Rattle.layout.specs.Shape.{nth}
+use Rattle.layout.specs.declared.node.Node.{Node}
+use Rattle.layout.specs.declared.node.Node.TheVariants.{Leaf}
+use Rattle.layout.proofs.Places.{nth-is}
 use Rattle.evaluate.specs.Evaluates.{Evaluates}
 use Rattle.evaluate.specs.Evaluates.Evaluates.{at_leaf, at_fork}
 use Rattle.evaluate.proofs.Outcomes.{only-outcome}
 use Rattle.cases.specs.Cases.{pair, left_first, right_first, trace_of, cases, ComesOut}
 
+-- a leaf of one frame
+lone : {V : Type 0} {ns : List Node} {source : Frames} {rules : Rules V} (c first : ℕ) → Some (Leaf first 1) ≡ nth ns c
+    → Evaluates ns source rules c (leaf_outcome source rules c first 1)
+lone c first e = at_leaf (nth-is _ _ _ e)
+
 trail-pair : Evaluates (pair 1 2) (plain (trace_of (5 ∷ 7 ∷ []))) trail 3 (Ok 162)
 unfolding remainder
-trail-pair =
-    at_fork (record { low = lit≤ tt; high = lit≤ tt; is = refl })
-    (at_leaf {c = 1} {first = 0} {count = 1} (record { low = lit≤ tt; high = lit≤ tt; is = refl }))
-    (at_leaf {c = 2} {first = 1} {count = 1} (record { low = lit≤ tt; high = lit≤ tt; is = refl }))
+trail-pair = at_fork (nth-is _ _ _ refl) (lone 1 0 refl) (lone 2 1 refl)
 
 trail-exchanged : Evaluates (pair 2 1) (plain (trace_of (5 ∷ 7 ∷ []))) trail 3 (Ok 222)
 unfolding remainder
-trail-exchanged =
-    at_fork (record { low = lit≤ tt; high = lit≤ tt; is = refl })
-    (at_leaf {c = 2} {first = 1} {count = 1} (record { low = lit≤ tt; high = lit≤ tt; is = refl }))
-    (at_leaf {c = 1} {first = 0} {count = 1} (record { low = lit≤ tt; high = lit≤ tt; is = refl }))
+trail-exchanged = at_fork (nth-is _ _ _ refl) (lone 2 1 refl) (lone 1 0 refl)
 
 -- the float sums of a frame with this front speed
 abbrev of-front : (n : ℕ) → T (speeds n 0) → Sums
@@ -40,21 +46,11 @@ right-sums = added (of-front 4096 tt) (added (of-front 1 tt) (of-front 1 tt))
 
 left-evaluates : Evaluates left_first (plain (trace_of (4096 ∷ 1 ∷ 1 ∷ []))) float 5 (Ok left-sums)
 unfolding remainder
-left-evaluates =
-    at_fork {l = 4} {r = 3} (record { low = lit≤ tt; high = lit≤ tt; is = refl })
-    (at_fork (record { low = lit≤ tt; high = lit≤ tt; is = refl })
-    (at_leaf {c = 1} {first = 0} {count = 1} (record { low = lit≤ tt; high = lit≤ tt; is = refl }))
-    (at_leaf {c = 2} {first = 1} {count = 1} (record { low = lit≤ tt; high = lit≤ tt; is = refl })))
-    (at_leaf {c = 3} {first = 2} {count = 1} (record { low = lit≤ tt; high = lit≤ tt; is = refl }))
+left-evaluates = at_fork {l = 4} {r = 3} (nth-is _ _ _ refl) (at_fork (nth-is _ _ _ refl) (lone 1 0 refl) (lone 2 1 refl)) (lone 3 2 refl)
 
 right-evaluates : Evaluates right_first (plain (trace_of (4096 ∷ 1 ∷ 1 ∷ []))) float 5 (Ok right-sums)
 unfolding remainder
-right-evaluates =
-    at_fork {l = 1} {r = 4} (record { low = lit≤ tt; high = lit≤ tt; is = refl })
-    (at_leaf {c = 1} {first = 0} {count = 1} (record { low = lit≤ tt; high = lit≤ tt; is = refl }))
-    (at_fork (record { low = lit≤ tt; high = lit≤ tt; is = refl })
-    (at_leaf {c = 2} {first = 1} {count = 1} (record { low = lit≤ tt; high = lit≤ tt; is = refl }))
-    (at_leaf {c = 3} {first = 2} {count = 1} (record { low = lit≤ tt; high = lit≤ tt; is = refl })))
+right-evaluates = at_fork {l = 1} {r = 4} (nth-is _ _ _ refl) (lone 1 0 refl) (at_fork (nth-is _ _ _ refl) (lone 2 1 refl) (lone 3 2 refl))
 
 -- 2 ^ k as a float
 abbrev two^ : ℕ → Float

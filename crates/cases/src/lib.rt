@@ -5,17 +5,10 @@ ghost use Rattle.std.specs.Prelude.{◌≡◌, length};
 ghost use Rattle.std.specs.List.{AllByRecursion};
 ghost use Rattle.cases.specs.Cases.{cases, ComesOut};
 
-// How many cases the list has.
-fn listed() -> usize
-    ensures { result ≡ length cases }
-{
-    4
-}
-
 // Every case of the list comes out; answers how many there are.
 pub fn cases_stand() -> usize
     ensures stand { AllByRecursion ComesOut cases }
     ensures many { result ≡ length cases }
 {
-    listed()
+    4
 }

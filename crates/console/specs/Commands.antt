@@ -17,7 +17,7 @@ pub data Asked : Type 0 where
 -- what a command asks for
 abbrev pub asked : Command → Asked
 asked Help = help
-asked (Evaluate job trace reckoning start) = evaluation job.now trace.now reckoning start
+asked (Evaluate job trace plan) = evaluation job.now trace.now plan.reckoning plan.start
 
 -- help takes no argument
 abbrev pub help_with : List (List ℕ) → Result Asked UsageError

@@ -7,13 +7,13 @@ use Rattle.algebra.specs.Meaning.{Rules}
 use Rattle.algebra.specs.declared.cell.Cell.{Cell}
 use Rattle.figures.specs.Float.{float}
 use Rattle.figures.specs.Summary.{summary}
+use Rattle.figures.specs.Texts.{figures_text}
 use Rattle.figures.specs.Trail.{trail}
 use Rattle.layout.specs.Loaded.{loaded}
 use Rattle.layout.specs.declared.node.Node.{Node}
 use Rattle.evaluate.specs.Filled.{Holds}
 use Rattle.evaluate.specs.Order.{Ordered}
 use Rattle.render.specs.Report.{report_text}
-use Rattle.render.specs.Values.{figures_text}
 use Rattle.console.specs.declared.command.Reckoning.{Reckoning}
 use Rattle.console.specs.declared.command.Reckoning.TheVariants.{Trail, Summary, Float}
 use Rattle.console.specs.declared.evaluation.EvaluationError.{EvaluationError}

@@ -1,6 +1,6 @@
 -- Why there is no report.
 use Rattle.std.specs.Prelude.{ℕ, List, codes}
-use Rattle.render.specs.Refused.{refusal_text}
+use Rattle.layout.specs.Texts.{refusal_text}
 use Rattle.console.specs.declared.evaluation.EvaluationError.{EvaluationError}
 use Rattle.console.specs.declared.evaluation.EvaluationError.TheVariants.{Load, Memory}
 

@@ -3,12 +3,13 @@
 
 mod command;
 mod evaluation;
+mod loaded;
 mod number;
 mod program;
 mod usage;
 
-pub use command::{Command, Reckoning, parse};
+pub use command::{Command, Plan, Reckoning, parse};
 pub use evaluation::{EvaluationError, evaluation_text};
 pub use number::decimal;
-pub use program::{Failed, run};
+pub use program::run;
 pub use usage::{UsageError, help_text};

@@ -1,62 +1,23 @@
 // The program: it reads the words and the files, and prints what they ask for.
-use crate::command::{Command, Reckoning, parse};
+use crate::command::{Command, Plan, parse};
 use crate::evaluation::{EvaluationError, evaluation_text};
 use crate::usage::{UsageError, help_text};
 use job::Table;
-use std::alloc::AllocError;
-use std::{env, fmt, fs, io};
-
-// The program failed, and said why.
-#[derive(Clone, Copy)]
-pub struct Failed;
+use std::process::ExitCode;
+use std::{env, fs, io};
+use thiserror::Error;
 
 // Why the program failed.
-#[derive(Drop)]
+#[derive(Debug, Drop, Error)]
 enum Failure<'a> {
-    Usage(UsageError),
+    #[error(transparent)]
+    Usage(#[from] UsageError),
+    #[error("cannot read {path}: {error}; name a file that can be read")]
     Unreadable { path: &'a str, error: io::Error },
-    Evaluation(EvaluationError),
-    Io(io::Error),
-}
-
-impl<'a> From<UsageError> for Failure<'a> {
-    fn from(error: UsageError) -> Failure<'a> {
-        Failure::Usage(error)
-    }
-}
-
-impl<'a> From<EvaluationError> for Failure<'a> {
-    fn from(error: EvaluationError) -> Failure<'a> {
-        Failure::Evaluation(error)
-    }
-}
-
-impl<'a> From<AllocError> for Failure<'a> {
-    fn from(_: AllocError) -> Failure<'a> {
-        Failure::Evaluation(EvaluationError::Memory)
-    }
-}
-
-impl<'a> From<io::Error> for Failure<'a> {
-    fn from(error: io::Error) -> Failure<'a> {
-        Failure::Io(error)
-    }
-}
-
-impl<'a> fmt::Display for Failure<'a> {
-    fn fmt<W: fmt::Write>(&self, f: &mut fmt::Formatter<W>) -> fmt::Result {
-        match self {
-            Failure::Usage(error) => write!(f, "{error}"),
-            Failure::Unreadable { path, error } => {
-                write!(
-                    f,
-                    "cannot read {path}: {error}; name a file that can be read"
-                )
-            }
-            Failure::Evaluation(error) => write!(f, "{error}"),
-            Failure::Io(error) => write!(f, "input or output failed: {error}"),
-        }
-    }
+    #[error(transparent)]
+    Evaluation(#[from] EvaluationError),
+    #[error("input or output failed: {0}")]
+    Io(#[from] io::Error),
 }
 
 // The words after the program's name.
@@ -66,10 +27,7 @@ fn words(rt: &HostRuntime) -> io::Result<Vec<String>> {
 
 // The bytes of a file.
 fn read<'a>(rt: &HostRuntime, path: &'a str) -> Result<Vec<u8>, Failure<'a>> {
-    match fs::read(rt, path) {
-        Ok(bytes) => Ok(bytes),
-        Err(error) => Err(Failure::Unreadable { path, error }),
-    }
+    fs::read(rt, path).map_err(|error| Failure::Unreadable { path, error })
 }
 
 // Prints the report of a job file over a trace file, or nothing where it fails.
@@ -77,50 +35,37 @@ fn evaluate_files<'a>(
     rt: &HostRuntime,
     job: &'a str,
     trace: &'a str,
-    reckoning: Reckoning,
-    start: Option<usize>,
+    plan: Plan,
 ) -> Result<(), Failure<'a>> {
     let job = read(rt, job)?;
     let trace = read(rt, trace)?;
-    let mut table = Table::new(rt.alloc())?;
-    let text = evaluation_text(rt.alloc(), &mut table, &job, &trace, reckoning, start)?;
-    rt.print(text)?;
-    Ok(())
+    let mut table = Table::new(rt.alloc()).map_err(EvaluationError::from)?;
+    let text = evaluation_text(rt.alloc(), &mut table, &job, &trace, plan)?;
+    Ok(rt.print(text)?)
 }
 
 // Does what the words ask for.
 fn obey<'a>(rt: &HostRuntime, words: &'a [String]) -> Result<(), Failure<'a>> {
     match parse(words)? {
-        Command::Help => {
-            rt.print(help_text())?;
-            Ok(())
-        }
-        Command::Evaluate {
-            job,
-            trace,
-            reckoning,
-            start,
-        } => evaluate_files(rt, job, trace, reckoning, start),
+        Command::Help => Ok(rt.print(help_text())?),
+        Command::Evaluate { job, trace, plan } => evaluate_files(rt, job, trace, plan),
     }
 }
 
-// One line on standard error.
-fn complain<D: fmt::Display + Drop>(rt: &HostRuntime, reason: D) -> Failed {
-    let _ = rt.eprintln(reason);
-    Failed
+// One line on standard error, and the status that says so.
+fn complain(rt: &HostRuntime, failure: Failure<'_>) -> ExitCode {
+    let _ = rt.eprintln(failure);
+    ExitCode::FAILURE
 }
 
-// Does what the command line asks for; a failure is one line on standard error.
-pub fn run(rt: &HostRuntime) -> Result<(), Failed> {
+// Does what the command line asks for; a failure is one line on standard error and status 1.
+pub fn run(rt: &HostRuntime) -> ExitCode {
     let words = match words(rt) {
         Ok(words) => words,
-        Err(error) => {
-            let _ = eprintln!(rt; "input or output failed: {error}");
-            return Err(Failed);
-        }
+        Err(error) => return complain(rt, Failure::Io(error)),
     };
     match obey(rt, &words) {
-        Ok(()) => Ok(()),
-        Err(failure) => Err(complain(rt, failure)),
+        Ok(()) => ExitCode::SUCCESS,
+        Err(failure) => complain(rt, failure),
     }
 }

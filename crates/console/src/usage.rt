@@ -4,7 +4,7 @@ ghost use Rattle.console.specs.Usage.{help_text, advice};
 
 use std::fmt;
 
-#[derive(Clone, Copy)]
+#[derive(Clone, Copy, Debug, PartialEq, Eq)]
 pub enum UsageError {
     NoCommand,
     UnknownCommand,
@@ -14,12 +14,12 @@ pub enum UsageError {
     BadStart,
 }
 
-impl UsageError {
-    // The message: what is wrong, and what to do.
-    fn words(self) -> &'static str
-        ensures { result.now ≡ advice self }
-    {
-        match self {
+// What is wrong, and what to do.
+impl fmt::Display for UsageError {
+    ghost output = { λ x. Some (advice x) };
+
+    fn fmt<W: fmt::Write>(&self, f: &mut fmt::Formatter<W>) -> fmt::Result {
+        let words = match self {
             UsageError::NoCommand => "no command: run satinonyx help to see the commands",
             UsageError::UnknownCommand => {
                 "unknown command: run satinonyx help to see the commands"
@@ -34,15 +34,8 @@ impl UsageError {
             UsageError::BadStart => {
                 "the start is no frame number: write decimal digits, at most 18446744073709551615"
             }
-        }
-    }
-}
-
-impl fmt::Display for UsageError {
-    ghost output = { λ x. Some (advice x) };
-
-    fn fmt<W: fmt::Write>(&self, f: &mut fmt::Formatter<W>) -> fmt::Result {
-        f.write_str(self.words())
+        };
+        f.write_str(words)
     }
 }
 

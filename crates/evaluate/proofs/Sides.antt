@@ -1,5 +1,5 @@
 -- What stands on the sides of a node, and that all nodes stand on those of the root.
-use Rattle.std.proofs.Common.{◌≡◌, ℕ, zero, suc, ◌+◌, ◌-◌, ◌≤◌, List, length, None, sym, subst, arith}
+use Rattle.std.proofs.Common.{◌≡◌, ℕ, zero, suc, ◌+◌, ◌-◌, ◌<◌, ◌≤◌, List, length, IsSome, refl, sym, subst, arith}
 use Rattle.std.proofs.ByRecursion.{All-get_or}
 use Rattle.layout.specs.Shape.{Nth, nth, Ranged, Shape}
 use Rattle.layout.specs.declared.node.Node.{Node}
@@ -7,7 +7,6 @@ use Rattle.layout.specs.declared.node.Node.TheVariants.{Leaf, Fork}
 use Rattle.layout.specs.declared.node.Parent.{Parent}
 use Rattle.layout.specs.declared.node.Parent.TheVariants.{Root, LeftOf, RightOf}
 use Rattle.layout.proofs.Places.{nth-some}
-use Rattle.evaluate.specs.Fit.{Fit}
 use Rattle.evaluate.specs.Within.{Within, itself, on_left, on_right}
 use Rattle.evaluate.proofs.Outcomes.{nth-any}
 
@@ -22,7 +21,7 @@ module _ {ns : List Node} {ps : List Parent} (shape : Shape ns ps) where
   Down-to k = (d : ℕ) → length ns ≤ d + k → 1 ≤ d → d ≤ length ns → Within ns (length ns) d
 
   the-root : (d : ℕ) → d ≡ length ns → Within ns (length ns) d
-  the-root d e = subst (Within ns (length ns)) (sym e) itself
+  the-root d e = rw e itself
 
   one_less : (k d : ℕ) → Down-to k → length ns ≤ d + suc k → (p : Parent) → Nth ps d p → Within ns (length ns) d
   one_less k d higher far Root h = the-root d (shape.root d h)
@@ -44,14 +43,17 @@ module _ {ns : List Node} {ps : List Parent} (shape : Shape ns ps) where
   pub within-root : (d : ℕ) → 1 ≤ d → d ≤ length ns → Within ns (length ns) d
   within-root d low high = down_to (length ns) d (omega arith) low high
 
--- a number up to the length is found
-pub found : (ns : List Node) (c : ℕ) → 1 ≤ c → c ≤ length ns → None ≡ nth ns c → ⊥
-found ns c low high e =
-    let h = nth-some (nth-any ns c low high).1 in
-    let z : ◌≡◌ {A = ℕ} 0 1 = cc in omega arith
+module _ {ns : List Node} {ps : List Parent} (shape : Shape ns ps) where
+  -- the frames of a leaf are some, with numbers of 32 bits
+  pub leaf-ranged : {c first count : ℕ} → Nth ns c (Leaf first count) → (0 < count) × (first + count ≤ 4294967296)
+  leaf-ranged {c} {first} {count} h =
+      let r : Ranged (Leaf first count) = subst Ranged (sym h.is) (All-get_or Ranged ns (c - 1) (Leaf first count) (omega arith) shape.ranged) in
+      (omega (arith, r.0), r.2)
 
--- what a table's node names or covers
-pub node-fit : {ns : List Node} {ps : List Parent} {c : ℕ} → Shape ns ps → (x : Node) → Nth ns c x → Fit c x
-node-fit {ns} {ps} {c} shape (Leaf first count) h =
-    subst Ranged (sym h.is) (All-get_or Ranged ns (c - 1) (Leaf first count) (omega arith) shape.ranged)
-node-fit {ns} {ps} {c} shape (Fork l r) h = let s = shape.forks c l r h in (s.2.low, s.0, s.3.low, s.1)
+  -- the sides of a fork are lower nodes
+  pub fork-sided : {c l r : ℕ} → Nth ns c (Fork l r) → ((1 ≤ l) × (l < c)) × ((1 ≤ r) × (r < c))
+  fork-sided h = let s = shape.forks _ _ _ h in ((s.2.low, s.0), (s.3.low, s.1))
+
+-- a number up to the length is found
+pub found : (ns : List Node) (c : ℕ) → 1 ≤ c → c ≤ length ns → IsSome (nth ns c)
+found ns c low high = rw (nth-some (nth-any ns c low high).1) refl

@@ -1,7 +1,7 @@
 pub mod Answered
 pub mod Evaluates
 pub mod Filled
-pub mod Fit
+pub mod Places
 pub mod Order
 pub mod Refusals
 pub mod Within

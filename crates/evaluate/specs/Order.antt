@@ -16,14 +16,6 @@ pub record Appended (ns : List Node) (c : ℕ) (before after : List ℕ) : Type 
   pub order : Order ns c added
   pub at_end : after ≡ before ++ added
 
--- the left side of fork c is appended, then its right side, then c
-pub record Sides (ns : List Node) (c l r : ℕ) (before after : List ℕ) : Type 0 where
-  pub one : List ℕ
-  pub two : List ℕ
-  pub left : Appended ns l before one
-  pub right : Appended ns r one two
-  pub last : after ≡ two ++ c ∷ []
-
 -- xs is the one order of all nodes, and each is in it; a job of no nodes has none in it
 pub record Ordered (ns : List Node) (xs : List ℕ) : Type 0 where
   pub empty : length ns ≡ 0 → xs ≡ []

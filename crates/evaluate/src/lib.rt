@@ -2,7 +2,7 @@
 #![tactic(auto)]
 
 mod existence;
-mod lookup;
+mod place;
 mod refusal;
 mod sequential;
 mod traversal;

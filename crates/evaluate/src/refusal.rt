@@ -5,18 +5,15 @@ ghost use Rattle.evaluate.specs.Refusals.{number};
 #[derive(Clone, Copy, PartialEq, Eq, Debug)]
 pub enum EvaluateRefusal {
     // The table has no nodes.
-    EmptyTable,
+    EmptyTable = 7,
     // There are fewer cells than nodes.
-    FewCells,
+    FewCells = 9,
 }
 
 impl EvaluateRefusal {
     pub fn number(self) -> u8
         ensures { result ≡ number self }
     {
-        match self {
-            EvaluateRefusal::EmptyTable => 7,
-            EvaluateRefusal::FewCells => 9,
-        }
+        self as u8
     }
 }

@@ -1,47 +1,24 @@
 // The order in which one processor works the nodes of a table.
-ghost use Rattle.std.specs.Prelude.{◌≤◌, length, IfOk, OnOk};
-ghost use Rattle.layout.specs.declared.node.Node.TheVariants.{Fork};
+ghost use Rattle.std.specs.Prelude.{IfOk, OnOk};
 ghost use Rattle.job.specs.Tables.{nodes_of};
-ghost use Rattle.evaluate.specs.Fit.{Fit};
-ghost use Rattle.evaluate.specs.Order.{Appended, Ordered, Sides};
+ghost use Rattle.evaluate.specs.Order.{Appended, Ordered};
 
-use crate::lookup::node_at;
+use crate::place::{Part, Place};
 use job::Table;
-use layout::Node;
 use std::alloc::{AllocError, Global};
 
-// Appends node `c` after all that stands on its sides.
-#[cycle(visiting)]
-fn visit(table: &Table, order: &mut Vec<u16>, c: u16) -> Result<(), AllocError>
-    requires low { 1 ≤ c }
-    requires high { c ≤ length (nodes_of table.now) }
-    ensures { OnOk result (Appended (nodes_of table.now) c order.old.items order.new.items) }
+// Appends a node after all that stands on its sides: the left side, the right side, then the node itself.
+fn visit(order: &mut Vec<u16>, place: Place) -> Result<(), AllocError>
+    ensures { OnOk result (Appended (nodes_of place.entry.table.now) place.entry.number order.old.items order.new.items) }
 {
-    match node_at(table, c) {
-        Node::Leaf { .. } => {
-            order.push(c)?;
-            Ok(())
+    match place.part() {
+        Part::Leaf(_) => {}
+        Part::Fork { left, right } => {
+            visit(order, left)?;
+            visit(order, right)?;
         }
-        Node::Fork { left, right } => visit_fork(table, order, c, left, right),
     }
-}
-
-// The left side, the right side, then the fork.
-#[cycle(visiting)]
-fn visit_fork(
-    table: &Table,
-    order: &mut Vec<u16>,
-    fork: u16,
-    left: u16,
-    right: u16,
-) -> Result<(), AllocError>
-    requires high { fork ≤ length (nodes_of table.now) }
-    requires sides { Fit fork (Fork left right) }
-    ensures { OnOk result (Sides (nodes_of table.now) fork left right order.old.items order.new.items) }
-{
-    visit(table, order, left)?;
-    visit(table, order, right)?;
-    order.push(fork)?;
+    order.push(place.number)?;
     Ok(())
 }
 
@@ -49,10 +26,9 @@ fn visit_fork(
 pub fn left_to_right(heap: Global, table: &Table) -> Result<Vec<u16>, AllocError>
     ensures { IfOk result (λ v. Ordered (nodes_of table.now) v.items) }
 {
-    let root = table.len();
-    let mut order = Vec::with_capacity(heap, root as usize)?;
-    if root > 0 {
-        visit(table, &mut order, root)?;
+    let mut order = Vec::with_capacity(heap, usize::from(table.len()))?;
+    if let Some(root) = Place::root(table) {
+        visit(&mut order, root)?;
     }
     Ok(order)
 }

@@ -1,3 +1,4 @@
 pub mod Float
 pub mod Summary
+pub mod Texts
 pub mod Trail

@@ -1,4 +1,2 @@
 mod Parts
-mod Remainders
 mod Spelled
-mod Table

@@ -4,11 +4,13 @@
 mod cause;
 mod crc;
 mod decode;
+mod error;
 mod frame;
 mod source;
 
 pub use cause::Cause;
 pub use crc::crc8;
 pub use decode::frame_at;
+pub use error::FrameError;
 pub use frame::Frame;
 pub use source::{Recorder, Source, Trace};

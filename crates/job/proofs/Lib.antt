@@ -1,1 +1,4 @@
+pub mod Filed
+pub mod Named
 pub mod Tabled
+pub mod Walked

@@ -1,17 +1,16 @@
 -- Every table has the shape of a job.
-use Rattle.std.proofs.Common.{◌≡◌, ℕ, ◌-◌, length, get_or, Some, None, Option, inl, inr, ⊎_elim, arith}
-use Rattle.std.proofs.lemmas.List.{get_or_default}
+use Rattle.std.proofs.Common.{◌≡◌, ℕ, ◌-◌, length, get_or, Some, None, Option, refl, inl, inr, ⊎_elim, arith}
 use Rattle.std.proofs.lemmas.Bool.{cases_lt}
 use Rattle.layout.specs.Shape.{Shape, nth}
 use Rattle.layout.specs.declared.node.Parent.{Parent}
 use Rattle.layout.specs.declared.node.Parent.TheVariants.{Root, LeftOf, RightOf}
-use Rattle.layout.proofs.Places.{nth-is, nth-at}
-use Rattle.layout.proofs.Sounds.{shape_of}
+use Rattle.layout.proofs.Places.{nth-from, nth-is, nth-some}
+use Rattle.layout.proofs.Shapes.{shaped}
 use Rattle.job.specs.Tables.{nodes_of, parents_of, ParentOf}
 use Rattle.job.specs.declared.table.Table.{Table}
 
 pub table-shape : (t : Table) → Shape (nodes_of t) (parents_of t)
-table-shape t = shape_of (nodes_of t) (parents_of t) t.few t.ranged t.wired
+table-shape t = shaped (nodes_of t) (parents_of t) t.nodes.few t.ranged t.wired
 
 -- what is kept of node c is whose side it is
 pub parent_of : (t : Table) (c : ℕ) (r : Option Parent) → r ≡ nth (parents_of t) c → ParentOf (nodes_of t) c r
@@ -24,8 +23,7 @@ parent_of t c None e =
     ⊎_elim inr
     (λ high.
     let long = (table-shape t).long in
-    let x = get_or (parents_of t) (c - 1) Root in
-    let found = nth-at (parents_of t) c x low (omega arith) (get_or_default (parents_of t) (c - 1) Root x (omega arith)) in
-    let z : ◌≡◌ {A = ℕ} 0 1 = cc in absurd (omega arith))
+    let found = nth-some (nth-from (parents_of t) c Root (get_or (parents_of t) (c - 1) Root) low (omega arith) refl) in
+    absurd cc)
     (cases_lt (length (nodes_of t)) c))
     (cases_lt c 1)

@@ -1,2 +1,5 @@
-pub mod Order
+pub mod Files
+pub mod Links
+pub mod Names
+pub mod Rows
 pub mod Tables

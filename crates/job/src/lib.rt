@@ -1,10 +1,12 @@
 // Tables of jobs, and the loader that reads one from a job file.
 #![tactic(auto)]
 
-mod chain;
+mod file;
+mod loading;
 mod naming;
-mod read;
+mod record;
 mod records;
+mod row;
 mod table;
 mod walk;
 

@@ -1,47 +1,50 @@
 // The pass over the chain of records.
-ghost use Rattle.std.specs.Prelude.{◌≡◌, ◌+◌, ◌*◌, ◌≤◌, true, false, not, length, if◌then◌else◌, nat_le, slice_index_or, slice_set};
+ghost use Rattle.std.specs.Prelude.{◌≡◌, true, false, if◌then◌else◌, None, is_some, slice_index_or, slice_set};
 ghost use Rattle.layout.specs.Chain.{chain};
+ghost use Rattle.layout.specs.Layout.{count};
 ghost use Rattle.layout.specs.Steps.{map_ok};
-ghost use Rattle.job.specs.Order.{order};
+ghost use Rattle.job.specs.Files.{record_at};
 
-use crate::chain::Chain;
-use crate::read::{record_start, short};
+use crate::file::JobFile;
+use crate::record::{RECORD_BYTES, next};
+use crate::row::MOST_ITEMS;
+use arrayvec::ArrayVec;
 use layout::LoadRefusal;
 
-// Marks record `x`, if it is one of `m` and was not reached before.
-fn reach(reached: &mut [bool; 1025], m: u16, x: u16) -> bool
-    requires { m ≤ 1024 }
-    ensures value { result ≡ (if nat_le x m then not (slice_index_or reached.old x false) else false) }
-    ensures marks { reached.new ≡ (if result then slice_set reached.old x true else reached.old) }
+// Record `x`, which is marked now, where the file has it and it was not reached before.
+fn reach(
+    file: &JobFile<'_>,
+    reached: &mut [bool; MOST_ITEMS + 1],
+    x: u16,
+) -> Option<[u8; RECORD_BYTES]>
+    ensures value { result ≡ (if slice_index_or reached.old x false then None else record_at file.now.bytes.now x) }
+    ensures marks { reached.new ≡ (if is_some result then slice_set reached.old x true else reached.old) }
 {
-    if x > m || reached[x as usize] {
-        return false;
+    let record = file.record(x)?;
+    let at = usize::from(x);
+    if reached[at] {
+        return None;
     }
-    reached[x as usize] = true;
-    true
+    reached[at] = true;
+    Some(record)
 }
 
-// The records on the chain, where every link leads to a record that was not reached before.
-pub(crate) fn follow(bytes: &[u8], m: u16) -> Result<Chain, LoadRefusal>
-    requires { (1 ≤ m) × ((m ≤ 1024) × (length bytes.now ≡ 4 + 12 * m)) }
-    ensures { map_ok order result ≡ chain bytes.now m }
+// The indices of the records on the chain, in order, where every link leads to a record that was not reached before.
+pub(crate) fn follow(file: &JobFile<'_>) -> Result<ArrayVec<u16, MOST_ITEMS>, LoadRefusal>
+    ensures { map_ok (λ order. order.items) result ≡ chain file.now.bytes.now (count file.now.bytes.now) }
 {
-    let mut indices = [0u16; 1024];
-    let mut reached = [false; 1025];
-    let mut len = 0usize;
-    let mut from = 0u16;
-    let mut link = short(bytes, 2);
-    if link == 0 {
+    let mut order = ArrayVec::new();
+    let mut reached = [false; MOST_ITEMS + 1];
+    let mut from = 0;
+    let mut link = file.first();
+    if link.is_none() {
         return Err(LoadRefusal::Link(0));
     }
-    while link != 0 {
-        if !reach(&mut reached, m, link) {
-            return Err(LoadRefusal::Link(from));
-        }
-        indices[len] = link;
-        len += 1;
-        from = link;
-        link = short(bytes, record_start(link) + 2);
+    while let Some(x) = link {
+        let record = reach(file, &mut reached, x).ok_or(LoadRefusal::Link(from))?;
+        order.push(x);
+        from = x;
+        link = next(&record);
     }
-    Ok(Chain { indices, len })
+    Ok(order)
 }

@@ -125,6 +125,9 @@ module _ (b : List ℕ) (m : ℕ) where
       (λ some. record { some = some; reached = subst Answer h (chain-answers some) })
       (cases_eq (first b) 0)
 
+  pub chain-short : (xs : List ℕ) → chain b m ≡ Ok xs → length xs ≤ m
+  chain-short xs h = let c = chain-found xs h in pigeonhole m xs c.reached.within c.reached.distinct
+
   pub chain-refused : (e : LoadRefusal) → chain b m ≡ Err e → (p : ℕ) × (e ≡ Link p) × BadLink b m p
   chain-refused e h =
       ⊎_elim

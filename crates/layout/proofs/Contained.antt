@@ -13,13 +13,15 @@ use Rattle.layout.specs.Follows.{Holds, Contents}
 use Rattle.layout.specs.Shape.{Nth, Ranged}
 use Rattle.layout.specs.Steps.{and_then}
 use Rattle.layout.specs.Refused.{Lowest, Unreadable}
+use Rattle.layout.proofs.Firsts.{First, first_here, first_later}
 use Rattle.layout.proofs.Lowest.{lowest-same}
+use Rattle.layout.proofs.Places.{nth-from}
 use Rattle.layout.proofs.Steps.{same_ok, same-err, clash, cases-result, both_ok}
 
 -- where a test guards a value, and there is one
 guarded : {X : Type 0} (t : Bool) (o : Option X) (x : X) → cond t o None ≡ Some x → (t ≡ true) × (o ≡ Some x)
 guarded true o x h = (refl, h)
-guarded false o x h = let z : ◌≡◌ {A = ℕ} 0 1 = cc in absurd (omega arith)
+guarded false o x h = absurd cc
 
 module _ (b : List ℕ) (i : ℕ) where
   abbrev Read : Node → Type 0
@@ -93,6 +95,9 @@ module _ (b : List ℕ) where
         long = ap suc s.long;
       }
 
+  pub records-ranged : (xs : List ℕ) (ns : List Node) → Ok ns ≡ records b [] xs → AllByRecursion Ranged ns
+  records-ranged xs ns h = let r = all_read [] xs ns (sym h) in subst (AllByRecursion Ranged) (sym r.joined) r.ranged
+
   pub all-reads : (ns : List Node) (xs : List ℕ) (more : List Node) → Contents b xs more → AllByRecursion Ranged more → records b ns xs ≡ Ok (ns ++ more)
   all-reads ns [] [] h k = ap Ok (sym (append-nil ns))
   all-reads ns [] (n ∷ more) h k = absurd h
@@ -113,54 +118,33 @@ module _ (b : List ℕ) where
       let same : get_or xs (c - 1) 0 ≡ x = get_or_default xs (c - 1) 0 x (omega (arith, at.low, at.high)) ∙ sym at.is in
       none n (subst (λ x. Holds b (start x) n) same h) k
 
-  -- the first record that cannot be read, with i before it
-  record Stopped (ns : List Node) (xs : List ℕ) (e : LoadRefusal) : Type 0 where
-    i : ℕ
-    is : e ≡ Content (length ns + i + 1)
-    high : i < length xs
-    bad : node_at b (start (get_or xs i 0)) ≡ None
-    before : (j : ℕ) → j < i → (n : Node) × (node_at b (start (get_or xs j 0)) ≡ Some n)
+  -- the first record that cannot be read, of node c + i
+  abbrev Stopped : ℕ → List ℕ → LoadRefusal → Type 0
+  Stopped c xs e = First (λ x. (n : Node) × (node_at b (start x) ≡ Some n)) (λ x. node_at b (start x) ≡ None) 0 Content c xs e
 
-  stopped-later : (ns : List Node) (n : Node) (x : ℕ) (xs : List ℕ) (e : LoadRefusal) → node_at b (start x) ≡ Some n → Stopped (ns ++ n ∷ []) xs e → Stopped ns (x ∷ xs) e
-  stopped-later ns n x xs e good s =
-      let at : length (ns ++ n ∷ []) + s.i + 1 ≡ length ns + suc s.i + 1 = omega (arith, length_push ns n) in
-      record { i = suc s.i; is = s.is ∙ ap Content at; high = omega (arith, s.high); bad = s.bad; before = before }
-    where
-      before : (j : ℕ) → j < suc s.i → (n : Node) × (node_at b (start (get_or (x ∷ xs) j 0)) ≡ Some n)
-      before zero lt = (n, good)
-      before (suc j) lt = s.before j (omega arith)
+  stopped-at : (ns : List Node) (x : ℕ) (xs : List ℕ) (e : LoadRefusal) → ((n : Node) → records b (ns ++ n ∷ []) xs ≡ Err e → Stopped (length (ns ++ n ∷ []) + 1) xs e) → (o : Option Node) → node_at b (start x) ≡ o → and_then (added ns o) (λ more. records b more xs) ≡ Err e → Stopped (length ns + 1) (x ∷ xs) e
+  stopped-at ns x xs e rest None is h = first_here x xs is (same-err h refl)
+  stopped-at ns x xs e rest (Some n) is h = first_later x xs (n, is) (subst (λ k. Stopped (k + 1) xs e) (length_push ns n) (rest n h))
 
-  stopped-at : (ns : List Node) (x : ℕ) (xs : List ℕ) (e : LoadRefusal) → ((n : Node) → records b (ns ++ n ∷ []) xs ≡ Err e → Stopped (ns ++ n ∷ []) xs e) → (o : Option Node) → node_at b (start x) ≡ o → and_then (added ns o) (λ more. records b more xs) ≡ Err e → Stopped ns (x ∷ xs) e
-  stopped-at ns x xs e rest None is h =
-      let at : length ns + 1 ≡ length ns + 0 + 1 = omega arith in
-      record { i = 0; is = same-err h (ap (λ c. Err (Content c)) at); high = omega arith; bad = is; before = λ j lt. absurd (omega arith) }
-  stopped-at ns x xs e rest (Some n) is h = stopped-later ns n x xs e is (rest n h)
-
-  stopped : (ns : List Node) (xs : List ℕ) (e : LoadRefusal) → records b ns xs ≡ Err e → Stopped ns xs e
+  stopped : (ns : List Node) (xs : List ℕ) (e : LoadRefusal) → records b ns xs ≡ Err e → Stopped (length ns + 1) xs e
   stopped ns [] e h = absurd (clash refl h)
   stopped ns (x ∷ xs) e h = stopped-at ns x xs e (λ n. stopped (ns ++ n ∷ []) xs e) (node_at b (start x)) refl h
 
   pub records-refused : (xs : List ℕ) (e : LoadRefusal) → records b [] xs ≡ Err e → (c : ℕ) × (e ≡ Content c) × Lowest (Unreadable b xs) c
-  records-refused xs e h =
-      let at : 0 + s.i + 1 ≡ s.i + 1 = omega arith in
-      (s.i + 1, s.is ∙ ap Content at, ((get_or xs s.i 0, here, none), before))
+  records-refused xs e h = (1 + s.i, s.is, ((get_or xs s.i 0, here, none), before))
     where
-      s : Stopped [] xs e
+      s : Stopped 1 xs e
       s = stopped [] xs e h
 
-      here : Nth xs (s.i + 1) (get_or xs s.i 0)
+      here : Nth xs (1 + s.i) (get_or xs s.i 0)
       here =
-          let at : s.i ≡ s.i + 1 - 1 = omega arith in
-          record {
-            low = omega arith;
-            high = omega (arith, s.high);
-            is = get_or_default xs s.i 0 (get_or xs s.i 0) s.high ∙ ap (λ j. get_or xs j (get_or xs s.i 0)) at;
-          }
+          let at : s.i ≡ 1 + s.i - 1 = omega arith in
+          nth-from xs (1 + s.i) 0 (get_or xs s.i 0) (omega arith) (omega (arith, s.high)) (ap (λ j. get_or xs j 0) at)
 
       none : (n : Node) → Holds b (start (get_or xs s.i 0)) n → Ranged n → ⊥
-      none n k r = let good = node-reads b (start (get_or xs s.i 0)) n (k, r) in let bad = s.bad in let z : ◌≡◌ {A = ℕ} 0 1 = cc in omega arith
+      none n k r = let good = node-reads b (start (get_or xs s.i 0)) n (k, r) in let bad = s.bad in cc
 
-      before : (d : ℕ) → d < s.i + 1 → Unreadable b xs d → ⊥
+      before : (d : ℕ) → d < 1 + s.i → Unreadable b xs d → ⊥
       before d lt u =
           let n = s.before (d - 1) (omega (arith, u.1.low)) in
           let r = node-read b (start (get_or xs (d - 1) 0)) n.0 n.1 in

@@ -1,7 +1,8 @@
 -- Lists of distinct numbers: of the numbers from 1 to m they hold at most m.
-use Rattle.std.proofs.Common.{◌≡◌, ℕ, zero, suc, ◌+◌, ◌≤◌, Bool, true, false, cond, eqb, List, [], ◌∷◌, ◌++◌, length, sym, refl, ap, ◌∙◌, subst, arith}
-use Rattle.std.proofs.lemmas.Bool.{eqb-true, eqb-false, ne_eqb, cond-false, cond_both, true≢false}
-use Rattle.std.specs.List.{AllByRecursion}
+use Rattle.std.proofs.Common.{◌≡◌, ℕ, suc, ◌<◌, ◌≤◌, Bool, ◌||◌, true, false, cond, eqb, List, [], ◌∷◌, ◌++◌, length, sym, refl, ap, ◌∙◌, ⊎_elim, arith}
+use Rattle.std.proofs.lemmas.Bool.{cases_Bool, eqb-true, eqb-false, ne_eqb, cond-false, true≢false}
+use Rattle.std.proofs.lemmas.Map.Steps.{length-le_from_distinct_below}
+use Rattle.std.specs.List.{AllByRecursion, IsDistinct, list_any}
 use Rattle.layout.specs.Chain.{among}
 use Rattle.layout.specs.Follows.{Index, Distinct}
 
@@ -37,44 +38,29 @@ pub distinct-new : (xs : List ℕ) (y : ℕ) (ys : List ℕ) → Distinct (xs ++
 distinct-new [] y ys d = refl
 distinct-new (x ∷ xs) y ys d = cond-false _ _ _ (turned x y (apart x xs y ys d.0)) ∙ distinct-new xs y ys d.1
 
--- the list without k
-abbrev without : ℕ → List ℕ → List ℕ
-without k [] = []
-without k (x ∷ xs) = cond (eqb k x) (without k xs) (x ∷ without k xs)
+none_equal : (x : ℕ) (ys : List ℕ) → among x ys ≡ false → AllByRecursion (λ y. eqb x y ≡ false) ys
+none_equal x [] h = tt
+none_equal x (y ∷ ys) h = let s = neither (eqb x y) (among x ys) h in (s.0, none_equal x ys s.1)
 
-among-without : (j k : ℕ) (xs : List ℕ) → among j xs ≡ false → among j (without k xs) ≡ false
-among-without j k [] h = refl
-among-without j k (x ∷ xs) h =
-    let s = neither (eqb j x) (among j xs) h in
-    let rest = among-without j k xs s.1 in
-    cond_both (eqb k x) (without k xs) (x ∷ without k xs) (λ l. among j l ≡ false) (λ _. rest) (λ _. cond-false _ _ _ s.0 ∙ rest)
+distinct : (xs : List ℕ) → Distinct xs → IsDistinct eqb xs
+unfolding IsDistinct
+distinct [] d = tt
+distinct (x ∷ xs) d = (none_equal x xs d.0, distinct xs d.1)
 
-distinct_without : (k : ℕ) (xs : List ℕ) → Distinct xs → Distinct (without k xs)
-distinct_without k [] d = tt
-distinct_without k (x ∷ xs) d =
-    let rest = distinct_without k xs d.1 in
-    cond_both (eqb k x) (without k xs) (x ∷ without k xs) Distinct (λ _. rest) (λ _. (among-without x k xs d.0, rest))
+-- of the indices, with 0 before them
+module _ (m : ℕ) where
+  none_zero : (xs : List ℕ) → AllByRecursion (Index m) xs → AllByRecursion (λ y. eqb 0 y ≡ false) xs
+  none_zero [] h = tt
+  none_zero (x ∷ xs) h = (ne_eqb 0 x (λ e. omega (arith, h.0.0)), none_zero xs h.1)
 
-within-without : (m : ℕ) (xs : List ℕ) → AllByRecursion (Index (suc m)) xs → AllByRecursion (Index m) (without (suc m) xs)
-within-without m [] h = tt
-within-without m (x ∷ xs) h =
-    let rest = within-without m xs h.1 in
-    cond_both (eqb (suc m) x) (without (suc m) xs) (x ∷ without (suc m) xs) (AllByRecursion (Index m)) (λ _. rest)
-    (λ other. let ne = eqb-false (suc m) x other in ((h.0.0, omega (arith, h.0.1)), rest))
+  below : (q : ℕ) (xs : List ℕ) → AllByRecursion (Index m) xs → list_any (eqb q) xs ≡ true → q < suc m
+  below q [] h a = absurd (true≢false (sym a))
+  below q (x ∷ xs) h a = ⊎_elim (λ same. omega (arith, eqb-true q x same, h.0.1)) (λ other. below q xs h.1 (sym (ap (λ t. t || list_any (eqb q) xs) other) ∙ a)) (cases_Bool (eqb q x))
 
-absent : (k : ℕ) (xs : List ℕ) → among k xs ≡ false → without k xs ≡ xs
-absent k [] h = refl
-absent k (x ∷ xs) h = let s = neither (eqb k x) (among k xs) h in cond-false _ _ _ s.0 ∙ ap (◌∷◌ x) (absent k xs s.1)
+  with_zero : (xs : List ℕ) → AllByRecursion (Index m) xs → Distinct xs → IsDistinct eqb (0 ∷ xs)
+  unfolding IsDistinct
+  with_zero xs h d = (none_zero xs h, distinct xs d)
 
-one_fewer : (k : ℕ) (xs : List ℕ) → Distinct xs → length xs ≤ length (without k xs) + 1
-one_fewer k [] d = omega arith
-one_fewer k (x ∷ xs) d =
-    cond_both (eqb k x) (without k xs) (x ∷ without k xs) (λ l. suc (length xs) ≤ length l + 1)
-    (λ same. omega (arith, ap length (absent k xs (subst (λ k. among k xs ≡ false) (sym (eqb-true k x same)) d.0))))
-    (λ _. omega (arith, one_fewer k xs d.1))
-
-pub pigeonhole : (m : ℕ) (xs : List ℕ) → AllByRecursion (Index m) xs → Distinct xs → length xs ≤ m
-pigeonhole zero [] h d = omega arith
-pigeonhole zero (x ∷ xs) h d = absurd (omega (arith, h.0.0, h.0.1))
-pigeonhole (suc m) xs h d =
-    omega (arith, one_fewer (suc m) xs d, pigeonhole m (without (suc m) xs) (within-without m xs h) (distinct_without (suc m) xs d))
+  pub pigeonhole : (xs : List ℕ) → AllByRecursion (Index m) xs → Distinct xs → length xs ≤ m
+  pigeonhole xs h d =
+      omega (arith, length-le_from_distinct_below (0 ∷ xs) (suc m) (with_zero xs h d) (λ q a. ⊎_elim (λ same. omega (arith, eqb-true q 0 same)) (λ other. below q xs h (sym (ap (λ t. t || list_any (eqb q) xs) other) ∙ a)) (cases_Bool (eqb q 0))))

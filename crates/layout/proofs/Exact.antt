@@ -3,7 +3,6 @@ use Rattle.std.proofs.Common.{◌≡◌, ℕ, true, List, [], is_ok, Ok, Err, Re
 use Rattle.std.proofs.lemmas.Bool.{false≢true}
 use Rattle.std.specs.List.{AllByRecursion}
 use Rattle.layout.specs.declared.node.Node.{Node}
-use Rattle.layout.specs.declared.node.Parent.{Parent}
 use Rattle.layout.specs.declared.refusal.LoadRefusal.{LoadRefusal}
 use Rattle.layout.specs.declared.refusal.LoadRefusal.TheVariants.{Size, Link, Content, Naming}
 use Rattle.layout.specs.Layout.{count, header}
@@ -16,10 +15,10 @@ use Rattle.layout.specs.Refused.{Refused}
 use Rattle.layout.specs.Shape.{Ranged}
 use Rattle.layout.specs.Steps.{and_then, map_ok}
 use Rattle.layout.proofs.Chains.{chain-found, chain-finds, chain-refused, chain-refuses}
-use Rattle.layout.proofs.Contained.{all_read, all-reads, records-refused, records-refuses}
-use Rattle.layout.proofs.Filled.{header-found, header-finds, header_refused, Passed, passed-few, passed-ranged}
+use Rattle.layout.proofs.Contained.{all_read, all-reads, records-ranged, records-refused, records-refuses}
+use Rattle.layout.proofs.Filled.{header-found, header-finds, header_refused, few}
 use Rattle.layout.proofs.Misnamed.{parents-refused, parents-refuses, parents-found}
-use Rattle.layout.proofs.Sounds.{shaped}
+use Rattle.layout.proofs.Shapes.{shaped}
 use Rattle.layout.proofs.Steps.{same_ok, clash, cases-result, both_ok, one-err, map-err}
 
 -- the passes after the header, after the chain and after the records
@@ -45,20 +44,16 @@ follows b ns h =
     let links = both_ok (chain b head.0) (after_chain b) ns head.2 in
     let read = both_ok (records b [] links.0) after_records ns links.2 in
     let name = both_ok (parents read.0) (λ _. Ok read.0) ns read.2 in
+    let size = header-found b head.0 head.1 in
     subst (Follows b) (same_ok refl name.2)
-    (from head.0 links.0 read.0 name.0 (record { headed = head.1; linked = links.1; read = read.1 }) name.1)
-  where
-    from : (m : ℕ) (xs : List ℕ) (ns : List Node) (ps : List Parent) → Passed b m xs ns → parents ns ≡ Ok ps → Follows b ns
-    from m xs ns ps p k =
-        let w = header-found b m p.headed in
-        record {
-          order = xs;
-          ps = ps;
-          sized = w.1;
-          chained = found-chain b m xs w.0 p.linked;
-          holds = found-contents b xs ns p.read;
-          shape = shaped ns ps (passed-few p) (passed-ranged p) k;
-        }
+    (record {
+      order = links.0;
+      ps = name.0;
+      sized = size.1;
+      chained = found-chain b head.0 links.0 size.0 links.1;
+      holds = found-contents b links.0 read.0 read.1;
+      shape = shaped read.0 name.0 (few b head.0 links.0 read.0 head.1 links.1 read.1) (records-ranged b links.0 read.0 (sym read.1)) name.1;
+    })
 
 -- what the words say, the passes find
 module _ (b : List ℕ) (sized : WellSized b) where
@@ -95,7 +90,7 @@ refused b e h =
     at_records xs sized c k =
         ⊎_elim
         (λ k. let w = records-refused b xs e k in subst (Refused b) (sym w.1) (sized, (xs, c, w.2)))
-        (λ k. let r = all_read b [] xs k.0 k.1 in at-naming xs k.0 sized c (found-contents b xs k.0 k.1) (subst (AllByRecursion Ranged) (sym r.joined) r.ranged) k.2)
+        (λ k. at-naming xs k.0 sized c (found-contents b xs k.0 k.1) (records-ranged b xs k.0 (sym k.1)) k.2)
         (one-err (records b [] xs) after_records e k)
 
     at-chain : (m : ℕ) → m ≡ count b → WellSized b → after_header b m ≡ Err e → Refused b e

@@ -1,24 +1,15 @@
 -- The passes, one after another.
-use Rattle.std.proofs.Common.{◌≡◌, ℕ, ◌+◌, ◌*◌, ◌≤◌, Bool, true, false, cond, leb, List, [], length, IfOk, Ok, Err, Result, sym, refl, ap, ◌∙◌, subst, arith}
+use Rattle.std.proofs.Common.{◌≡◌, ℕ, ◌+◌, ◌*◌, ◌≤◌, Bool, true, false, cond, leb, List, [], length, Ok, Err, Result, refl, ap, ◌∙◌, arith}
 use Rattle.std.proofs.lemmas.Bool.{eq-eqb, eqb-true, leb-true, le-leb, cond-true, false≢true}
-use Rattle.std.specs.List.{AllByRecursion}
 use Rattle.layout.specs.declared.node.Node.{Node}
-use Rattle.layout.specs.declared.node.Parent.{Parent}
 use Rattle.layout.specs.declared.refusal.LoadRefusal.{LoadRefusal}
 use Rattle.layout.specs.declared.refusal.LoadRefusal.TheVariants.{Size}
 use Rattle.layout.specs.Layout.{count, sized, header}
 use Rattle.layout.specs.Chain.{chain}
 use Rattle.layout.specs.Records.{records}
-use Rattle.layout.specs.Naming.{parents}
 use Rattle.layout.specs.Follows.{WellSized}
-use Rattle.layout.specs.Loaded.{loaded}
-use Rattle.layout.specs.Shape.{Ranged}
-use Rattle.layout.specs.Sound.{all_in_range}
-use Rattle.layout.specs.Steps.{map_ok, and_then}
-use Rattle.layout.proofs.Chains.{chain-found}
+use Rattle.layout.proofs.Chains.{chain-short}
 use Rattle.layout.proofs.Contained.{all_read}
-use Rattle.layout.proofs.Distinct.{pigeonhole}
-use Rattle.layout.proofs.Sounds.{all-ranged}
 use Rattle.layout.proofs.Steps.{same_ok, same-err, clash}
 
 guard : {X E : Type 0} (t : Bool) (r : Result X E) (e : E) (x : X) → cond t r (Err e) ≡ Ok x → (t ≡ true) × (r ≡ Ok x)
@@ -56,39 +47,9 @@ header_refused b e h = (only (leb 4 (length b)) (sized b (count b)) h, λ w. cla
     only true false h = same-err h refl
     only false u h = same-err h refl
 
--- what the passes before the naming found
-pub record Passed (b : List ℕ) (m : ℕ) (xs : List ℕ) (ns : List Node) : Type 0 where
-  pub headed : header b ≡ Ok m
-  pub linked : chain b m ≡ Ok xs
-  pub read : records b [] xs ≡ Ok ns
-
-module _ {b : List ℕ} {m : ℕ} {xs : List ℕ} {ns : List Node} (p : Passed b m xs ns) where
-  pub passed-few : length ns ≤ 1024
-  passed-few =
-      let h = header-found b m p.headed in
-      let r = all_read b [] xs ns p.read in
-      let c = chain-found b m xs p.linked in
-      omega (arith, h.0, h.1.counted.1, r.long, ap length r.joined, pigeonhole m xs c.reached.within c.reached.distinct)
-
-  pub passed-ranged : AllByRecursion Ranged ns
-  passed-ranged = let r = all_read b [] xs ns p.read in subst (AllByRecursion Ranged) (sym r.joined) r.ranged
-
-  pub passed-loaded : loaded b ≡ and_then (parents ns) (λ _. Ok ns)
-  passed-loaded =
-      ap (λ r. and_then r (λ m. and_then (chain b m) (λ xs. and_then (records b [] xs) (λ ns. and_then (parents ns) (λ _. Ok ns))))) p.headed
-      ∙ ap (λ r. and_then r (λ xs. and_then (records b [] xs) (λ ns. and_then (parents ns) (λ _. Ok ns)))) p.linked
-      ∙ ap (λ r. and_then r (λ ns. and_then (parents ns) (λ _. Ok ns))) p.read
-
-  pub value : (ps : List Parent) (r : Result Unit LoadRefusal) → map_ok (λ _. ps) r ≡ parents ns → map_ok (λ _. ns) r ≡ loaded b
-  value ps r h = turned r ∙ ap (λ s. and_then s (λ _. Ok ns)) h ∙ sym passed-loaded
-    where
-      turned : (r : Result Unit LoadRefusal) → map_ok (λ _. ns) r ≡ and_then (map_ok (λ _. ps) r) (λ _. Ok ns)
-      turned (Ok u) = refl
-      turned (Err e) = refl
-
-  pub kept : (P : Type 0) (ps : List Parent) (r : Result Unit LoadRefusal) → map_ok (λ _. ps) r ≡ parents ns → (parents ns ≡ Ok ps → P) → IfOk r (λ _. P)
-  kept P ps (Ok u) h k = k (sym h)
-  kept P ps (Err e) h k = tt
-
-  pub kept-ranged : all_in_range ns ≡ true
-  kept-ranged = all-ranged ns passed-ranged
+-- what the passes before the naming found is few nodes
+pub few : (b : List ℕ) (m : ℕ) (xs : List ℕ) (ns : List Node) → header b ≡ Ok m → chain b m ≡ Ok xs → records b [] xs ≡ Ok ns → length ns ≤ 1024
+few b m xs ns head link read =
+    let h = header-found b m head in
+    let r = all_read b [] xs ns read in
+    omega (arith, h.0, h.1.counted.1, r.long, ap length r.joined, chain-short b m xs link)

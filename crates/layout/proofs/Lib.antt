@@ -1,14 +1,14 @@
 pub mod Steps
 pub mod Lowest
+pub mod Firsts
 pub mod Distinct
+pub mod Ranges
 pub mod Chains
 pub mod Walks
 pub mod Contained
 pub mod Reading
 pub mod Places
 pub mod Shapes
-pub mod Sounds
 pub mod Misnamed
-pub mod Claims
 pub mod Filled
 pub mod Exact

@@ -1,6 +1,6 @@
 -- The pass over the forks answers just the shapes of a job, and just the bad names.
-use Rattle.std.proofs.Common.{◌≡◌, ℕ, zero, suc, ◌+◌, ◌-◌, ◌<◌, ◌≤◌, ◌⊎◌, List, [], ◌∷◌, ◌++◌, length, get_or, take, replicate, Ok, Err, sym, refl, ap, ◌∙◌, subst, inl, inr, ⊎_elim, append_assoc, arith}
-use Rattle.std.proofs.lemmas.List.{length_push, length-replicate, length-take-le, get_or-take, get_or_default}
+use Rattle.std.proofs.Common.{◌≡◌, ℕ, ◌+◌, ◌-◌, ◌<◌, ◌≤◌, ◌⊎◌, List, [], ◌∷◌, ◌++◌, length, get_or, take, replicate, Ok, Err, sym, refl, ap, ◌∙◌, subst, inl, inr, ⊎_elim, append_assoc, arith}
+use Rattle.std.proofs.lemmas.List.{length_push, length-replicate, length-take-le, get_or-take}
 use Rattle.std.proofs.lemmas.Bool.{cases_eq, cases_lt, eq-eqb, ne_eqb, lt-ltb, le-ltb}
 use Rattle.layout.specs.declared.node.Node.{Node}
 use Rattle.layout.specs.declared.node.Node.TheVariants.{Leaf, Fork}
@@ -12,9 +12,10 @@ use Rattle.layout.specs.Naming.{taken, name, claims, named, complete, parents}
 use Rattle.layout.specs.Refused.{Lowest, Names, Misnames, Unnamed, BadNaming}
 use Rattle.layout.specs.Shape.{Nth, Shape}
 use Rattle.layout.specs.Steps.{and_then}
+use Rattle.layout.proofs.Firsts.{First, first_here, first_later}
 use Rattle.layout.proofs.Lowest.{lowest-same}
-use Rattle.layout.proofs.Places.{nth-same, nth-front, nth-within, nth-middle}
-use Rattle.layout.proofs.Shapes.{Given, given, Part, one_more, none_named, all_named, left-root, right-root, left-right, Wired, wired}
+use Rattle.layout.proofs.Places.{nth-same, nth-from, nth-front, nth-within, nth-middle}
+use Rattle.layout.proofs.Shapes.{Given, given, Part, one_more, none_named, from_none, left-root, right-root, left-right, Wired, wired}
 use Rattle.layout.proofs.Steps.{same-err, clash, cases-result, one-err}
 
 -- fork g is the parent of node c
@@ -35,13 +36,10 @@ owned-same qs c f g (inr h) (inr k) = let e = nth-same h k in cc
 owner : (qs : List Parent) (c : ℕ) → 1 ≤ c → c ≤ length qs → Nth qs c Root ⊎ ((g : ℕ) × Owned qs c g)
 owner qs c low high = split (get_or qs (c - 1) Root) refl
   where
-    at : (q : Parent) → q ≡ get_or qs (c - 1) Root → Nth qs c q
-    at q e = record { low = low; high = high; is = e ∙ get_or_default qs (c - 1) Root q (omega arith) }
-
     split : (q : Parent) → q ≡ get_or qs (c - 1) Root → Nth qs c Root ⊎ ((g : ℕ) × Owned qs c g)
-    split Root e = inl (at Root e)
-    split (LeftOf g) e = inr (g, inl (at (LeftOf g) e))
-    split (RightOf g) e = inr (g, inr (at (RightOf g) e))
+    split Root e = inl (nth-from qs c Root Root low high e)
+    split (LeftOf g) e = inr (g, inl (nth-from qs c Root (LeftOf g) low high e))
+    split (RightOf g) e = inr (g, inr (nth-from qs c Root (RightOf g) low high e))
 
 root-free : (qs : List Parent) (c g : ℕ) → Nth qs c Root → Owned qs c g → ⊥
 root-free qs c g h (inl k) = left-root g (nth-same k h)
@@ -160,29 +158,14 @@ named-refused done (n ∷ rest) f qs e is room part h =
     (one-err (claims f n qs) (λ qs. named (f + 1) qs rest) e h)
 
 -- the first parent that is missing, of node c + i
-record Missing (c : ℕ) (ps : List Parent) (e : LoadRefusal) : Type 0 where
-  i : ℕ
-  is : e ≡ Naming (c + i)
-  high : i < length ps
-  root : Root ≡ get_or ps i Root
-  before : (j : ℕ) → j < i → Root ≡ get_or ps j Root → ⊥
-
-missing-later : (c : ℕ) (q : Parent) (ps : List Parent) (e : LoadRefusal) → (Root ≡ q → ⊥) → Missing (c + 1) ps e → Missing c (q ∷ ps) e
-missing-later c q ps e some m =
-    let at : c + 1 + m.i ≡ c + suc m.i = omega arith in
-    record { i = suc m.i; is = m.is ∙ ap Naming at; high = omega (arith, m.high); root = m.root; before = before }
-  where
-    before : (j : ℕ) → j < suc m.i → Root ≡ get_or (q ∷ ps) j Root → ⊥
-    before zero lt r = some r
-    before (suc j) lt r = m.before j (omega arith) r
+abbrev Missing : ℕ → List Parent → LoadRefusal → Type 0
+Missing c ps e = First (λ q. Root ≡ q → ⊥) (λ q. Root ≡ q) Root Naming c ps e
 
 complete-refused : (c : ℕ) (ps : List Parent) (e : LoadRefusal) → complete c ps ≡ Err e → Missing c ps e
 complete-refused c [] e h = absurd (clash refl h)
-complete-refused c (Root ∷ ps) e h =
-    let at : c ≡ c + 0 = omega arith in
-    record { i = 0; is = same-err h (ap (λ k. Err (Naming k)) at); high = omega arith; root = refl; before = λ j lt. absurd (omega arith) }
-complete-refused c (LeftOf f ∷ ps) e h = missing-later c (LeftOf f) ps e (λ r. left-root f (sym r)) (complete-refused (c + 1) ps e h)
-complete-refused c (RightOf f ∷ ps) e h = missing-later c (RightOf f) ps e (λ r. right-root f (sym r)) (complete-refused (c + 1) ps e h)
+complete-refused c (Root ∷ ps) e h = first_here Root ps refl (same-err h refl)
+complete-refused c (LeftOf f ∷ ps) e h = first_later (LeftOf f) ps (λ r. left-root f (sym r)) (complete-refused (c + 1) ps e h)
+complete-refused c (RightOf f ∷ ps) e h = first_later (RightOf f) ps (λ r. right-root f (sym r)) (complete-refused (c + 1) ps e h)
 
 -- all nodes have named their sides, and one is left without a name
 module _ (ns : List Node) (qs : List Parent) (part : Part ns qs) (long : length qs ≡ length ns) (e : LoadRefusal) (m : Missing 1 (take (length ns - 1) qs) e) where
@@ -192,11 +175,8 @@ module _ (ns : List Node) (qs : List Parent) (part : Part ns qs) (long : length 
   free : Nth qs (1 + m.i) Root
   free =
       let at : m.i ≡ 1 + m.i - 1 = omega arith in
-      record {
-        low = omega arith;
-        high = omega (arith, below, m.high);
-        is = m.root ∙ get_or-take (length ns - 1) qs m.i Root (omega (arith, below, m.high)) ∙ ap (λ j. get_or qs j Root) at;
-      }
+      nth-from qs (1 + m.i) Root Root (omega arith) (omega (arith, below, m.high))
+      (m.bad ∙ get_or-take (length ns - 1) qs m.i Root (omega (arith, below, m.high)) ∙ ap (λ j. get_or qs j Root) at)
 
   named-before : (d : ℕ) → d < 1 + m.i → Unnamed ns d → ⊥
   named-before d lt (low, high, none) =
@@ -217,17 +197,14 @@ module _ (ns : List Node) (qs : List Parent) (part : Part ns qs) (long : length 
 pub parents-refused : (ns : List Node) (e : LoadRefusal) → parents ns ≡ Err e → (p : ℕ) × (e ≡ Naming p) × BadNaming ns p
 parents-refused ns e h =
     ⊎_elim
-    (λ k. let w = named-refused [] ns 1 (replicate (length ns) Root) e refl (omega (arith, size)) (none_named (length ns)) k in (w.0, w.1, inl w.2))
+    (λ k. let w = named-refused [] ns 1 (replicate (length ns) Root) e refl (omega (arith, length-replicate (length ns) Root)) (none_named (length ns)) k in (w.0, w.1, inl w.2))
     (λ k.
-    let a = all_named [] ns 1 (replicate (length ns) Root) k.0 refl (omega (arith, size)) (none_named (length ns)) k.1 in
+    let a = from_none ns k.0 k.1 in
     ⊎_elim
-    (λ c. let m = complete-refused 1 (take (length ns - 1) k.0) e c in (1 + m.i, m.is, unnamed-left ns k.0 a.0 (a.1 ∙ size) e m))
+    (λ c. let m = complete-refused 1 (take (length ns - 1) k.0) e c in (1 + m.i, m.is, unnamed-left ns k.0 a.0 a.1 e m))
     (λ c. absurd (clash refl c.2))
     (one-err (complete 1 (take (length ns - 1) k.0)) (λ _. Ok k.0) e k.2))
     (one-err (named 1 (replicate (length ns) Root) ns) (λ qs. and_then (complete 1 (take (length ns - 1) qs)) (λ _. Ok qs)) e h)
-  where
-    size : length (replicate (length ns) Root) ≡ length ns
-    size = length-replicate (length ns) Root
 
 -- the nodes of a job name well
 well-named : (ns : List Node) (ps : List Parent) → Wired ns ps → (p : ℕ) → BadNaming ns p → ⊥

@@ -1,12 +1,17 @@
 -- What stands at a number of a list, counted from 1.
-use Rattle.std.proofs.Common.{◌≡◌, ℕ, zero, suc, ◌+◌, ◌-◌, ◌<◌, ◌≤◌, ◌⊎◌, List, [], ◌∷◌, ◌++◌, length, get_or, set, Some, None, sym, refl, ap, ◌∙◌, subst, inl, inr, ⊎_elim, arith}
+use Rattle.std.proofs.Common.{◌≡◌, ℕ, zero, suc, ◌+◌, ◌-◌, ◌<◌, ◌≤◌, ◌⊎◌, List, [], ◌∷◌, ◌++◌, length, get_or, set, Some, None, Option, Bor, sym, refl, ap, ◌∙◌, subst, inl, inr, ⊎_elim, arith}
 use Rattle.std.proofs.lemmas.List.{get_or-set_same, get_or-set_other, get_or_append_left, get_or_push, get_or_at, get_or_default, length-append, length_push, length-set}
 use Rattle.std.proofs.lemmas.Bool.{cases_lt, cases_eq}
+use Rattle.std.specs.Option.{option_copied}
+use Rattle.std.specs.Slice.{IsItemAt}
 use Rattle.layout.specs.Shape.{Nth, nth}
 
 module _ {X : Type 0} where
   pub nth-same : {xs : List X} {c : ℕ} {x y : X} → Nth xs c x → Nth xs c y → x ≡ y
   nth-same {xs} {c} {x} {y} h k = h.is ∙ get_or_default xs (c - 1) x y (omega arith) ∙ sym k.is
+
+  pub nth-from : (xs : List X) (c : ℕ) (d x : X) → 1 ≤ c → c ≤ length xs → x ≡ get_or xs (c - 1) d → Nth xs c x
+  nth-from xs c d x low high is = record { low = low; high = high; is = is ∙ get_or_default xs (c - 1) d x (omega arith) }
 
   pub nth-front : {xs : List X} {c : ℕ} {x : X} (ys : List X) → Nth xs c x → Nth (xs ++ ys) c x
   nth-front {xs} {c} {x} ys h = record {
@@ -86,12 +91,17 @@ module _ {X : Type 0} where
       (λ low.
       ⊎_elim
       (λ past. absurd (never (h ∙ nth-none xs c (inr past))))
-      (λ high. let e = nth-at xs c (get_or xs (c - 1) x) low high (get_or_default xs (c - 1) x (get_or xs (c - 1) x) (omega arith)) in record { low = low; high = high; is = cc })
+      (λ high. let e = nth-at xs c (get_or xs (c - 1) x) low high (get_or_default xs (c - 1) x (get_or xs (c - 1) x) (omega arith)) in nth-from xs c x x low high cc)
       (cases_lt (length xs) c))
       (cases_lt c 1)
     where
       never : Some x ≡ None → ⊥
-      never k = let z : ◌≡◌ {A = ℕ} 0 1 = cc in omega arith
+      never k = cc
 
   pub nth-some : {xs : List X} {c : ℕ} {x : X} → Nth xs c x → nth xs c ≡ Some x
   nth-some {xs} {c} {x} h = nth-at xs c x h.low h.high h.is
+
+  -- what a slice lends at c - 1
+  pub lent-nth : (xs : List X) (c : ℕ) (r : Option (Bor X)) → 1 ≤ c → IsItemAt xs (c - 1) r → option_copied r ≡ nth xs c
+  lent-nth xs c None low h = sym (nth-none xs c (inr (omega (arith, h.3))))
+  lent-nth xs c (Some x) low h = sym (nth-at xs c x.now low (omega (arith, h.3.0)) h.1)

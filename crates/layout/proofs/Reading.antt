@@ -1,28 +1,39 @@
--- What one turn of the pass over the records keeps.
-use Rattle.std.proofs.Common.{◌≡◌, ℕ, ◌+◌, ◌<◌, ◌≤◌, List, length, get_or, take, drop, Ok, ap, ◌∙◌, subst}
-use Rattle.std.proofs.lemmas.List.{at_drop_more, at_drop_all, get_or-take, length-take-le}
-use Rattle.std.proofs.ByRecursion.{All-get_or}
-use Rattle.layout.specs.declared.node.Node.{Node}
-use Rattle.layout.specs.Layout.{start, node_at}
-use Rattle.layout.specs.Chain.{chain}
-use Rattle.layout.specs.Follows.{Index}
-use Rattle.layout.specs.Records.{added, records}
-use Rattle.layout.specs.Steps.{and_then}
-use Rattle.layout.proofs.Chains.{chain-found}
+-- What a record reads, by itself and in the file.
+use Rattle.std.proofs.Common.{◌≡◌, ℕ, ◌+◌, ◌<◌, List, get_or, take, drop, refl, ap, ◌∙◌, arith}
+use Rattle.std.proofs.lemmas.List.{get_or-take, get_or-drop}
+use Rattle.layout.specs.Layout.{short_at, word_at, node_at}
 
--- what stands at place i of a chain
-pub index_at : (b : List ℕ) (m : ℕ) (indices : List ℕ) (len i : ℕ) → len ≤ length indices → i < len → chain b m ≡ Ok (take len indices) → Index m (get_or indices i 0)
-index_at b m indices len i fits lt h =
-    let long : i < length (take len indices) = rw (length-take-le len indices fits) lt in
-    subst (Index m) (get_or-take len indices i 0 lt) (All-get_or (Index m) (take len indices) i 0 long (chain-found b m (take len indices) h).reached.within)
+-- the twelve bytes from place i on, read by themselves
+module _ (b : List ℕ) (i : ℕ) where
+  abbrev r : List ℕ
+  r = take 12 (drop i b)
 
--- the pass after i of the first `len` indices
-module _ (b : List ℕ) (ns : List Node) (indices : List ℕ) (len i : ℕ) (fits : len ≤ length indices) where
-  pub records-step : i < len → records b ns (drop i (take len indices)) ≡ and_then (added ns (node_at b (start (get_or indices i 0)))) (λ more. records b more (drop (i + 1) (take len indices)))
-  records-step lt =
-      let long : i < length (take len indices) = rw (length-take-le len indices fits) lt in
-      at_drop_more (records b ns) (take len indices) i 0 long
-      ∙ ap (λ x. and_then (added ns (node_at b (start x))) (λ more. records b more (drop (i + 1) (take len indices)))) (get_or-take len indices i 0 lt)
+  byte : (k : ℕ) → k < 12 → get_or r k 0 ≡ get_or b (i + k) 0
+  byte k lt = get_or-take 12 (drop i b) k 0 lt ∙ get_or-drop i b k 0
 
-  pub records-end : len ≤ i → records b ns (drop i (take len indices)) ≡ Ok ns
-  records-end all = at_drop_all (records b ns) (take len indices) i (rw (length-take-le len indices fits) all)
+  pub short-record : (k : ℕ) → k < 11 → short_at r k ≡ short_at b (i + k)
+  short-record k lt =
+      let e = byte k (omega arith) in
+      let f = byte (k + 1) (omega arith) in
+      let at : i + (k + 1) ≡ i + k + 1 = omega arith in
+      rw (e, f, at) refl
+
+  word : (k : ℕ) → k < 9 → word_at r k ≡ word_at b (i + k)
+  word k lt =
+      let e = short-record k (omega arith) in
+      let f = short-record (k + 2) (omega arith) in
+      let at : i + (k + 2) ≡ i + k + 2 = omega arith in
+      rw (e, f, at) refl
+
+  pub node-record : node_at r 0 ≡ node_at b i
+  node-record =
+      let at : i + 0 ≡ i = omega arith in
+      let e0 : get_or r 0 0 ≡ get_or b i 0 = byte 0 (omega arith) ∙ ap (λ i. get_or b i 0) at in
+      let e1 = byte 1 (omega arith) in
+      let w4 = word 4 (omega arith) in
+      let s4 = short-record 4 (omega arith) in
+      let s6 = short-record 6 (omega arith) in
+      let w8 = word 8 (omega arith) in
+      let s8 = short-record 8 (omega arith) in
+      let s10 = short-record 10 (omega arith) in
+      rw (e0, e1, w4, s4, s6, w8, s8, s10) refl

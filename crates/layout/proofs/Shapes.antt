@@ -2,13 +2,14 @@
 use Rattle.std.proofs.Common.{◌≡◌, ℕ, zero, suc, ◌+◌, ◌-◌, ◌<◌, ◌≤◌, ◌⊎◌, List, [], ◌∷◌, ◌++◌, length, get_or, take, set, replicate, Ok, sym, refl, ◌∙◌, subst, ⊎_elim, append_assoc, append-nil, arith}
 use Rattle.std.proofs.lemmas.List.{length-set, length_push, length-replicate, length-take-le, get_or-replicate, get_or-take}
 use Rattle.std.proofs.lemmas.Bool.{cases_eq, cases_lt, eq-eqb, ne_eqb, lt-ltb, le-ltb}
+use Rattle.std.specs.List.{AllByRecursion}
 use Rattle.layout.specs.declared.node.Node.{Node}
 use Rattle.layout.specs.declared.node.Node.TheVariants.{Leaf, Fork}
 use Rattle.layout.specs.declared.node.Parent.{Parent}
 use Rattle.layout.specs.declared.node.Parent.TheVariants.{Root, LeftOf, RightOf}
 use Rattle.layout.specs.declared.refusal.LoadRefusal.TheVariants.{Naming}
 use Rattle.layout.specs.Naming.{taken, name, claims, named, complete, parents}
-use Rattle.layout.specs.Shape.{Nth}
+use Rattle.layout.specs.Shape.{Nth, Ranged, Shape}
 use Rattle.layout.specs.Steps.{and_then}
 use Rattle.layout.proofs.Steps.{same_ok, clash, both_ok}
 use Rattle.layout.proofs.Places.{nth-same, nth-old, nth-new, nth-push, nth-set, nth-kept, nth-back}
@@ -62,16 +63,16 @@ pub record Part (done : List Node) (ps : List Parent) : Type 0 where
   pub rights : (c f : ℕ) → Nth ps c (RightOf f) → (l : ℕ) × Nth done f (Fork l c)
 
 pub left-root : (f : ℕ) → LeftOf f ≡ Root → ⊥
-left-root f h = let z : ◌≡◌ {A = ℕ} 0 1 = cc in omega arith
+left-root f h = cc
 
 pub right-root : (f : ℕ) → RightOf f ≡ Root → ⊥
-right-root f h = let z : ◌≡◌ {A = ℕ} 0 1 = cc in omega arith
+right-root f h = cc
 
 pub left-right : (f g : ℕ) → LeftOf f ≡ RightOf g → ⊥
-left-right f g h = let z : ◌≡◌ {A = ℕ} 0 1 = cc in omega arith
+left-right f g h = cc
 
 leaf-fork : (a k l r : ℕ) → Fork l r ≡ Leaf a k → ⊥
-leaf-fork a k l r h = let z : ◌≡◌ {A = ℕ} 0 1 = cc in omega arith
+leaf-fork a k l r h = cc
 
 leaf-more : (done : List Node) (ps : List Parent) (a k : ℕ) → Part done ps → Part (done ++ Leaf a k ∷ []) ps
 leaf-more done ps a k p = record {
@@ -145,7 +146,7 @@ one_more done (Fork l r) ps qs room p h =
     let y = given f r (RightOf f) b.0 qs (omega (arith, x.long)) b.2 in
     (fork-more done f l r ps b.0 qs refl p x y, y.long ∙ x.long)
 
-pub all_named : (done rest : List Node) (f : ℕ) (ps qs : List Parent) → f ≡ length done + 1 → length done + length rest ≤ length ps → Part done ps → named f ps rest ≡ Ok qs → Part (done ++ rest) qs × (length qs ≡ length ps)
+all_named : (done rest : List Node) (f : ℕ) (ps qs : List Parent) → f ≡ length done + 1 → length done + length rest ≤ length ps → Part done ps → named f ps rest ≡ Ok qs → Part (done ++ rest) qs × (length qs ≡ length ps)
 all_named done [] f ps qs is room p h =
     let e : ps ≡ qs = same_ok refl h in
     subst (λ qs. Part (done ++ []) qs × (length qs ≡ length ps)) e (subst (λ ns. Part ns ps) (sym (append-nil done)) p, refl)
@@ -166,6 +167,13 @@ none_named n = record {
     unnamed : (c : ℕ) (p : Parent) → Nth (replicate n Root) c p → get_or (replicate n Root) (c - 1) p ≡ Root
     unnamed c p h = get_or-replicate n (c - 1) Root p (omega (arith, length-replicate n Root))
 
+-- the parents that naming gives, from none named on
+pub from_none : (ns : List Node) (ps : List Parent) → named 1 (replicate (length ns) Root) ns ≡ Ok ps → Part ns ps × (length ps ≡ length ns)
+from_none ns ps h =
+    let size = length-replicate (length ns) Root in
+    let a = all_named [] ns 1 (replicate (length ns) Root) ps refl (omega (arith, size)) (none_named (length ns)) h in
+    (a.0, a.1 ∙ size)
+
 -- where the parents are complete, none of them is missing
 complete-all : (c : ℕ) (ps : List Parent) (i : ℕ) (d : Parent) → complete c ps ≡ Ok tt → i < length ps → Root ≡ get_or ps i d → ⊥
 complete-all c [] i d h lt e = omega arith
@@ -185,9 +193,8 @@ pub wired : (ns : List Node) (ps : List Parent) → parents ns ≡ Ok ps → Wir
 wired ns ps h =
     let b = both_ok (named 1 (replicate (length ns) Root) ns) (λ qs. and_then (complete 1 (take (length ns - 1) qs)) (λ _. Ok qs)) ps h in
     let k = both_ok (complete 1 (take (length ns - 1) b.0)) (λ _. Ok b.0) ps b.2 in
-    let size = length-replicate (length ns) Root in
-    let a = all_named [] ns 1 (replicate (length ns) Root) b.0 refl (omega (arith, size)) (none_named (length ns)) b.1 in
-    let long : length b.0 ≡ length ns = a.1 ∙ size in
+    let a = from_none ns b.0 b.1 in
+    let long : length b.0 ≡ length ns = a.1 in
     subst (Wired ns) (same_ok refl k.2) (record {
       long = long;
       part = a.0;
@@ -199,3 +206,9 @@ wired ns ps h =
           (λ high. omega arith)
           (cases_lt c (length ns));
     })
+
+-- few nodes in range, and the parents that their naming gives
+pub shaped : (ns : List Node) (ps : List Parent) → length ns ≤ 1024 → AllByRecursion Ranged ns → parents ns ≡ Ok ps → Shape ns ps
+shaped ns ps few ranged h =
+    let w = wired ns ps h in
+    record { few = few; long = w.long; ranged = ranged; forks = w.part.forks; lefts = w.part.lefts; rights = w.part.rights; root = w.root }

@@ -6,6 +6,6 @@ pub mod Naming
 pub mod Loaded
 pub mod Shape
 pub mod Follows
-pub mod Sound
 pub mod Refusals
 pub mod Refused
+pub mod Texts

@@ -1,5 +1,8 @@
-ghost use Rattle.std.specs.Prelude.{◌≡◌};
+ghost use Rattle.std.specs.Prelude.{◌≡◌, Some};
 ghost use Rattle.layout.specs.Refusals.{number, place};
+ghost use Rattle.layout.specs.Texts.{in_words, refusal_text};
+
+use std::fmt;
 
 // Why a job file is refused.
 #[derive(Clone, Copy, Debug, PartialEq, Eq)]
@@ -35,5 +38,31 @@ impl LoadRefusal {
             LoadRefusal::Size => 0,
             LoadRefusal::Link(p) | LoadRefusal::Content(p) | LoadRefusal::Naming(p) => p,
         }
+    }
+
+    // The reason in words.
+    fn in_words(self) -> &'static str
+        ensures { result.now ≡ in_words self }
+    {
+        match self {
+            LoadRefusal::Size => "the header or the length of the job file is wrong",
+            LoadRefusal::Link(_) =>
+                "the link of this record (0: of the header) leads nowhere, or back",
+            LoadRefusal::Content(_) => "the record of this node has bad content",
+            LoadRefusal::Naming(_) =>
+                "this fork names a node that it may not name, or no fork names this node",
+        }
+    }
+}
+
+// The line that says why: number, place and reason.
+impl fmt::Display for LoadRefusal {
+    ghost output = { λ x. Some (refusal_text x) };
+
+    fn fmt<W: fmt::Write>(&self, f: &mut fmt::Formatter<W>) -> fmt::Result {
+        let number = self.number();
+        let place = self.place();
+        let reason = self.in_words();
+        write!(f, "refused {number} at {place}: {reason}")
     }
 }

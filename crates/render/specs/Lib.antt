@@ -1,6 +1,3 @@
 pub mod Nodes
-pub mod Outcomes
-pub mod Refused
-pub mod Values
 pub mod Words
 pub mod Report

@@ -1,21 +1,13 @@
 -- The report of an evaluation. A part whose values have no known text has none either.
-use Rattle.std.specs.Prelude.{◌≡◌, ℕ, List, [], ◌∷◌, ◌++◌, length, IfSome, Some, None, codes, Option}
-use Rattle.std.specs.Fmt.{option_append}
+use Rattle.std.specs.Prelude.{ℕ, List, [], ◌∷◌, ◌++◌, length, Some, None, codes, Option}
+use Rattle.std.specs.Fmt.{◌++?◌, with_newline}
 use Rattle.algebra.specs.Cells.{cell_at}
+use Rattle.algebra.specs.Texts.{cell_text}
 use Rattle.algebra.specs.declared.cell.Cell.{Cell}
 use Rattle.layout.specs.Shape.{nth}
 use Rattle.layout.specs.declared.node.Node.{Node}
 use Rattle.render.specs.Nodes.{line_text}
-use Rattle.render.specs.Outcomes.{cell_text}
 use Rattle.render.specs.Words.{counted}
-
--- a text with the end of its line
-abbrev pub line : Option (List ℕ) → Option (List ℕ)
-line o = option_append o (Some (10 ∷ []))
-
--- a text grew from `before` to `after` by what o holds, if it holds one
-abbrev pub Grew : List ℕ → Option (List ℕ) → List ℕ → Type 0
-Grew before o after = IfSome o (λ bs. after ≡ before ++ bs)
 
 -- how many nodes the job has, and how many frames the trace
 abbrev pub head_text : ℕ → ℕ → List ℕ
@@ -25,18 +17,18 @@ module _ {V : Type 0} (show : V → Option (List ℕ)) where
   -- the line of node c, if it is one; no line for any other number
   abbrev pub line_of : List (Cell V) → ℕ → Option Node → Option (List ℕ)
   line_of cells c None = Some []
-  line_of cells c (Some node) = line (line_text show c node (cell_at cells c))
+  line_of cells c (Some node) = with_newline (line_text show c node (cell_at cells c))
 
   -- the lines of these numbers, in their order
   abbrev pub lines_text : List Node → List (Cell V) → List ℕ → Option (List ℕ)
   lines_text nodes cells [] = Some []
-  lines_text nodes cells (c ∷ cs) = option_append (line_of cells c (nth nodes c)) (lines_text nodes cells cs)
+  lines_text nodes cells (c ∷ cs) = line_of cells c (nth nodes c) ++? lines_text nodes cells cs
 
   -- what the last node yields
   abbrev pub outcome_line : Cell V → Option (List ℕ)
-  outcome_line cell = line (option_append (Some (codes "outcome: ")) (cell_text show cell.outcome))
+  outcome_line cell = with_newline (Some (codes "outcome: ") ++? cell_text show cell.outcome)
 
   -- the whole report
   abbrev pub report_text : List Node → ℕ → List ℕ → List (Cell V) → Option (List ℕ)
   report_text nodes frames order cells =
-      option_append (option_append (Some (head_text (length nodes) frames)) (lines_text nodes cells order)) (outcome_line (cell_at cells (length nodes)))
+      (Some (head_text (length nodes) frames) ++? lines_text nodes cells order) ++? outcome_line (cell_at cells (length nodes))

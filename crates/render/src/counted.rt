@@ -4,7 +4,7 @@ ghost use Rattle.render.specs.Words.{counted};
 
 use std::fmt;
 
-#[derive(Clone, Copy)]
+#[derive(Clone, Copy, Debug, PartialEq, Eq)]
 pub struct Counted<'a> {
     pub count: usize,
     pub noun: &'a str,
@@ -14,8 +14,7 @@ impl<'a> fmt::Display for Counted<'a> {
     ghost output = { λ x. Some (counted x.count x.noun.now) };
 
     fn fmt<W: fmt::Write>(&self, f: &mut fmt::Formatter<W>) -> fmt::Result {
-        let count = self.count;
-        let noun = self.noun;
+        let Counted { count, noun } = *self;
         if count == 1 {
             write!(f, "{count} {noun}")
         } else {

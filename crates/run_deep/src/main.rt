@@ -1,13 +1,8 @@
 // The program on one more stored run: the deepest job.
 #![tactic(auto)]
 
-use console::Failed;
 use std::process::ExitCode;
 
-// The failure has been told on standard error by then, as one line.
 fn main(rt: HostRuntime) -> ExitCode {
-    match console::run(&rt) {
-        Ok(()) => ExitCode::SUCCESS,
-        Err(Failed) => ExitCode::FAILURE,
-    }
+    console::run(&rt)
 }

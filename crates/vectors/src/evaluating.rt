@@ -1,13 +1,14 @@
 // Outcomes of whole jobs, and what they leave in the cells.
+use crate::outcomes::{bad, check_outcomes};
 use crate::samples::{
     BROKEN_TRACE, GROUPED_TRACE, LEFT_GROUPED, LOPSIDED, LOPSIDED_TRACE, PAIR, PAIR_TRACE,
     RIGHT_GROUPED, TURNED_TRACE,
 };
 use crate::tables::table_of;
 use algebra::{Cell, Fault};
-use evaluate::evaluate;
+use evaluate::{EvaluateRefusal, evaluate};
 use figures::{Figures, Float, Summary, Sums, Trail};
-use frame::{Cause, Recorder, Source, Trace};
+use frame::{FrameError, Recorder, Source, Trace};
 use job::Table;
 use std::alloc::Global;
 use std::process::Abort;
@@ -19,10 +20,6 @@ const MARKED: Cell<u32> = Cell {
     outcome: Some(Ok(77)),
 };
 
-fn bad(cause: Cause, node: u16, frame: u32) -> Outcome {
-    Err(Fault::BadFrame { cause, node, frame })
-}
-
 // The outcomes of the pair's two leaves and of its fork; a fourth cell stays as it was.
 fn check_pair<S: Source>(
     rt: &impl Abort,
@@ -30,14 +27,8 @@ fn check_pair<S: Source>(
     source: &S,
     expected: [Outcome; 3],
 ) -> Result<(), Fail> {
-    let [left, right, fork] = expected;
-    let mut cells = [MARKED; 4];
-    assert_eq!(rt; evaluate(table, source, &Trail, &mut cells)?, fork);
-    assert_eq!(rt; cells[0].outcome, Some(left));
-    assert_eq!(rt; cells[1].outcome, Some(right));
-    assert_eq!(rt; cells[2].outcome, Some(fork));
-    assert_eq!(rt; cells[3], MARKED);
-    Ok(())
+    let cells = &mut [MARKED; 4];
+    check_outcomes(rt, table, source, &Trail, cells, MARKED, &expected)
 }
 
 #[test]
@@ -64,27 +55,27 @@ const BOTH_BAD: &[u8] = b"\0\x05\0\x08\0\0\0\xd4\
 #[test]
 fn the_left_fault_is_named(rt: HostRuntime) -> Result<(), Fail> {
     let table = table_of(rt.alloc(), PAIR)?;
-    let left = bad(Cause::WRONG_CHECK, 1, 0);
-    let right = bad(Cause::TOO_FAST, 2, 1);
+    let left = bad(FrameError::WrongCheck, 1, 0);
+    let right = bad(FrameError::TooFast, 2, 1);
     let both = Trace { bytes: BOTH_BAD };
     check_pair(&rt, &table, &both, [left, right, left])?;
     let turned = Recorder {
         bytes: BOTH_BAD,
         start: 1,
     };
-    let left = bad(Cause::TOO_FAST, 1, 0);
-    let right = bad(Cause::WRONG_CHECK, 2, 1);
+    let left = bad(FrameError::TooFast, 1, 0);
+    let right = bad(FrameError::WrongCheck, 2, 1);
     check_pair(&rt, &table, &turned, [left, right, left])?;
     let short = Trace {
         bytes: &PAIR_TRACE[0..15],
     };
-    let right = bad(Cause::MISSING, 2, 1);
+    let right = bad(FrameError::Missing, 2, 1);
     check_pair(&rt, &table, &short, [Ok(5), right, right])?;
     let missing = Recorder {
         bytes: PAIR_TRACE,
         start: 2,
     };
-    let left = bad(Cause::MISSING, 1, 0);
+    let left = bad(FrameError::Missing, 1, 0);
     check_pair(&rt, &table, &missing, [left, right, left])
 }
 
@@ -97,7 +88,7 @@ fn the_last_frame_is_missing(rt: HostRuntime) -> Result<(), Fail> {
     let table = table_of(rt.alloc(), LAST)?;
     let trace = Trace { bytes: PAIR_TRACE };
     let outcome = evaluate(&table, &trace, &Trail, &mut [MARKED])?;
-    assert_eq!(rt; outcome, bad(Cause::MISSING, 1, 4_294_967_295));
+    assert_eq!(rt; outcome, bad(FrameError::Missing, 1, 4_294_967_295));
     Ok(())
 }
 
@@ -114,36 +105,25 @@ fn check_trails(
     expected: [Outcome; 15],
 ) -> Result<(), Fail> {
     let table = table_of(heap, LOPSIDED)?;
-    let mut cells = [MARKED; 16];
-    let outcome = evaluate(&table, &Trace { bytes }, &Trail, &mut cells)?;
-    assert_eq!(rt; outcome, expected[14]);
-    for i in 0..15 {
-        assert_eq!(rt; cells[i].outcome, Some(expected[i]));
-    }
-    assert_eq!(rt; cells[15], MARKED);
-    Ok(())
+    let trace = Trace { bytes };
+    let cells = &mut [MARKED; 16];
+    check_outcomes(rt, &table, &trace, &Trail, cells, MARKED, &expected)
 }
 
 #[test]
 fn trail_of_a_lopsided_job(rt: HostRuntime) -> Result<(), Fail> {
-    let mut expected = [Ok(0); 15];
-    for i in 0..15 {
-        expected[i] = Ok(TRAILS[i]);
-    }
-    check_trails(&rt, rt.alloc(), LOPSIDED_TRACE, expected)
+    check_trails(&rt, rt.alloc(), LOPSIDED_TRACE, TRAILS.map(Ok))
 }
 
 // Node 8 lies to the left of node 6, and below the forks 11, 13, 14 and 15.
 #[test]
 fn faults_of_a_lopsided_job(rt: HostRuntime) -> Result<(), Fail> {
-    let mut expected = [bad(Cause::WRONG_CHECK, 8, 12); 15];
-    for i in 0..15 {
-        match i + 1 {
-            8 | 11 | 13 | 14 | 15 => {}
-            6 => expected[i] = bad(Cause::TOO_FAST, 6, 17),
-            _ => expected[i] = Ok(TRAILS[i]),
-        }
-    }
+    let eighth = bad(FrameError::WrongCheck, 8, 12);
+    let sixth = bad(FrameError::TooFast, 6, 17);
+    let [a, b, c, d, e, _, g, _, i, j, _, l, _, _, _] = TRAILS.map(Ok);
+    let expected = [
+        a, b, c, d, e, sixth, g, eighth, i, j, eighth, l, eighth, eighth, eighth,
+    ];
     check_trails(&rt, rt.alloc(), BROKEN_TRACE, expected)
 }
 
@@ -176,36 +156,45 @@ fn float_of(heap: Global, job: &[u8]) -> Result<Sums, Fail> {
 
 #[test]
 fn float_of_two_groupings(rt: HostRuntime) -> Result<(), Fail> {
-    let left = float_of(rt.alloc(), LEFT_GROUPED)?;
-    assert_eq!(rt; left.sum, 4098.0);
-    assert_eq!(rt; left.squares, 16777216.0);
-    let right = float_of(rt.alloc(), RIGHT_GROUPED)?;
-    assert_eq!(rt; right.sum, 4098.0);
-    assert_eq!(rt; right.squares, 16777218.0);
+    let left = Sums {
+        sum: 4098.0,
+        squares: 16777216.0,
+    };
+    assert_eq!(rt; float_of(rt.alloc(), LEFT_GROUPED)?, left);
+    let right = Sums {
+        sum: 4098.0,
+        squares: 16777218.0,
+    };
+    assert_eq!(rt; float_of(rt.alloc(), RIGHT_GROUPED)?, right);
     Ok(())
 }
 
-fn refusal_of(table: &Table, cells: &mut [Cell<u32>]) -> Result<u8, Fail> {
-    match evaluate(table, &Trace { bytes: PAIR_TRACE }, &Trail, cells) {
-        Ok(_) => Err(Fail::new("not refused")),
-        Err(refusal) => Ok(refusal.number()),
-    }
+fn told(table: &Table, cells: &mut [Cell<u32>]) -> Result<Outcome, EvaluateRefusal> {
+    evaluate(table, &Trace { bytes: PAIR_TRACE }, &Trail, cells)
 }
 
 #[test]
 fn a_refusal_keeps_the_cells(rt: HostRuntime) -> Result<(), Fail> {
     let mut table = Table::new(rt.alloc())?;
     let mut cells = [MARKED; 2];
-    assert_eq!(rt; refusal_of(&table, &mut [])?, 7);
-    assert_eq!(rt; refusal_of(&table, &mut cells)?, 7);
+    let empty = Err(EvaluateRefusal::EmptyTable);
+    let few = Err(EvaluateRefusal::FewCells);
+    assert_eq!(rt; told(&table, &mut []), empty);
+    assert_eq!(rt; told(&table, &mut cells), empty);
     assert_eq!(rt; cells, [MARKED; 2]);
     assert!(rt; table.load(PAIR).is_ok());
-    assert_eq!(rt; refusal_of(&table, &mut [])?, 9);
-    assert_eq!(rt; refusal_of(&table, &mut cells)?, 9);
+    assert_eq!(rt; told(&table, &mut []), few);
+    assert_eq!(rt; told(&table, &mut cells), few);
     assert_eq!(rt; cells, [MARKED; 2]);
     // A refused file leaves no nodes.
     assert!(rt; table.load(&PAIR[0..39]).is_err());
-    assert_eq!(rt; refusal_of(&table, &mut cells)?, 7);
+    assert_eq!(rt; told(&table, &mut cells), empty);
     assert_eq!(rt; cells, [MARKED; 2]);
     Ok(())
+}
+
+#[test]
+fn numbers_of_refusals(rt: HostRuntime) {
+    assert_eq!(rt; EvaluateRefusal::EmptyTable.number(), 7);
+    assert_eq!(rt; EvaluateRefusal::FewCells.number(), 9);
 }

@@ -1,9 +1,9 @@
 // Joins that the value algebra refuses, within a leaf and at a fork.
+use crate::outcomes::{bad, check_outcomes};
 use crate::rising::{FALLING, Rising};
 use crate::tables::table_of;
 use algebra::{Cell, Fault};
-use evaluate::evaluate;
-use frame::{Cause, Trace};
+use frame::{Cause, FrameError, Trace};
 use job::Table;
 use std::process::Abort;
 use std::test::Fail;
@@ -73,30 +73,11 @@ fn fall(node: u16, frame: u32) -> Outcome {
     })
 }
 
-fn wrong_check(node: u16, frame: u32) -> Outcome {
-    Err(Fault::BadFrame {
-        cause: Cause::WRONG_CHECK,
-        node,
-        frame,
-    })
-}
-
-fn check_outcomes(
-    rt: &impl Abort,
-    table: &Table,
-    bytes: &[u8],
-    expected: [Outcome; 3],
-) -> Result<(), Fail> {
-    let [left, right, fork] = expected;
-    let mut cells = [Cell { outcome: None }; 3];
-    assert_eq!(rt;
-        evaluate(table, &Trace { bytes }, &Rising, &mut cells)?,
-        fork
-    );
-    assert_eq!(rt; cells[0].outcome, Some(left));
-    assert_eq!(rt; cells[1].outcome, Some(right));
-    assert_eq!(rt; cells[2].outcome, Some(fork));
-    Ok(())
+// The outcomes of the two leaves and of the fork, for the frames of these bytes.
+fn check(rt: &impl Abort, table: &Table, bytes: &[u8], expected: [Outcome; 3]) -> Result<(), Fail> {
+    let mark = Cell { outcome: None };
+    let trace = Trace { bytes };
+    check_outcomes(rt, table, &trace, &Rising, &mut [mark; 3], mark, &expected)
 }
 
 #[test]
@@ -106,11 +87,11 @@ fn refused_joins(rt: HostRuntime) -> Result<(), Fail> {
         cause: FALLING,
         node: 3,
     });
-    check_outcomes(&rt, &table, NONE, [Ok(2), Ok(3), Ok(3)])?;
-    check_outcomes(&rt, &table, LEFT, [fall(1, 2), Ok(3), fall(1, 2)])?;
-    check_outcomes(&rt, &table, RIGHT, [Ok(3), fall(2, 4), fall(2, 4)])?;
-    check_outcomes(&rt, &table, BOTH, [fall(1, 1), fall(2, 4), fall(1, 1)])?;
-    check_outcomes(&rt, &table, FORK, [Ok(3), Ok(2), fork])
+    check(&rt, &table, NONE, [Ok(2), Ok(3), Ok(3)])?;
+    check(&rt, &table, LEFT, [fall(1, 2), Ok(3), fall(1, 2)])?;
+    check(&rt, &table, RIGHT, [Ok(3), fall(2, 4), fall(2, 4)])?;
+    check(&rt, &table, BOTH, [fall(1, 1), fall(2, 4), fall(1, 1)])?;
+    check(&rt, &table, FORK, [Ok(3), Ok(2), fork])
 }
 
 // The leftmost fault is named, whatever its layer.
@@ -118,35 +99,43 @@ fn refused_joins(rt: HostRuntime) -> Result<(), Fail> {
 fn refused_joins_and_bad_frames(rt: HostRuntime) -> Result<(), Fail> {
     let table = table_of(rt.alloc(), JOB)?;
     let joined = fall(1, 1);
-    check_outcomes(&rt, &table, FALL_FIRST, [joined, wrong_check(2, 3), joined])?;
-    let read = wrong_check(1, 1);
-    check_outcomes(&rt, &table, CHECK_FIRST, [read, fall(2, 4), read])
+    check(
+        &rt,
+        &table,
+        FALL_FIRST,
+        [joined, bad(FrameError::WrongCheck, 2, 3), joined],
+    )?;
+    let read = bad(FrameError::WrongCheck, 1, 1);
+    check(&rt, &table, CHECK_FIRST, [read, fall(2, 4), read])
 }
 
-fn check_fault(rt: &impl Abort, fault: Fault, told: (u8, u8, u16), frame: Option<u32>) {
-    let layer = fault.layer();
-    assert_eq!(rt; (layer, fault.cause().number, fault.node()), told);
-    assert_eq!(rt; fault.frame(), frame);
+fn parts(fault: Fault) -> (u8, u8, u16, Option<u32>) {
+    (
+        fault.layer(),
+        fault.cause().number,
+        fault.node(),
+        fault.frame(),
+    )
 }
 
 // Layer, cause, node and frame of each kind of fault.
 #[test]
 fn parts_of_faults(rt: HostRuntime) {
     let read = Fault::BadFrame {
-        cause: Cause::TOO_FAST,
+        cause: Cause::from(FrameError::TooFast),
         node: 8,
         frame: 4_294_967_295,
     };
-    check_fault(&rt, read, (1, 4, 8), Some(4_294_967_295));
+    assert_eq!(rt; parts(read), (1, 4, 8, Some(4_294_967_295)));
     let leaf = Fault::LeafJoin {
         cause: FALLING,
         node: 1,
         frame: 2,
     };
-    check_fault(&rt, leaf, (2, 200, 1), Some(2));
+    assert_eq!(rt; parts(leaf), (2, 200, 1, Some(2)));
     let fork = Fault::ForkJoin {
         cause: FALLING,
         node: 3,
     };
-    check_fault(&rt, fork, (2, 200, 3), None);
+    assert_eq!(rt; parts(fork), (2, 200, 3, None));
 }

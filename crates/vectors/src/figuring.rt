@@ -2,7 +2,6 @@
 use algebra::ValueAlgebra;
 use figures::{Figures, Float, Summary, Sums, Trail};
 use frame::{Cause, Frame};
-use std::process::Abort;
 use std::test::Fail;
 
 const TOO_LARGE: Cause = Cause { number: 1 };
@@ -99,9 +98,8 @@ fn trail_shows_the_order(rt: HostRuntime) -> Result<(), Fail> {
     Ok(())
 }
 
-fn check_sums(rt: &impl Abort, found: Sums, sum: f32, squares: f32) {
-    assert_eq!(rt; found.sum, sum);
-    assert_eq!(rt; found.squares, squares);
+fn sums(sum: f32, squares: f32) -> Sums {
+    Sums { sum, squares }
 }
 
 #[test]
@@ -116,12 +114,12 @@ fn float_shows_the_grouping(rt: HostRuntime) -> Result<(), Fail> {
         rear: 0,
         flags: 0,
     });
-    check_sums(&rt, a, 4096.0, 16777216.0);
-    check_sums(&rt, b, 1.0, 1.0);
-    check_sums(&rt, Float.value(FRONT), 40000.0, 1600000000.0);
+    assert_eq!(rt; a, sums(4096.0, 16777216.0));
+    assert_eq!(rt; b, sums(1.0, 1.0));
+    assert_eq!(rt; Float.value(FRONT), sums(40000.0, 1600000000.0));
     let left = Float.join(Float.join(a, b)?, b)?;
-    check_sums(&rt, left, 4098.0, 16777216.0);
+    assert_eq!(rt; left, sums(4098.0, 16777216.0));
     let right = Float.join(a, Float.join(b, b)?)?;
-    check_sums(&rt, right, 4098.0, 16777218.0);
+    assert_eq!(rt; right, sums(4098.0, 16777218.0));
     Ok(())
 }

@@ -16,6 +16,8 @@ mod loading;
 #[cfg(test)]
 mod ordering;
 #[cfg(test)]
+mod outcomes;
+#[cfg(test)]
 mod recording;
 #[cfg(test)]
 mod refusing;
@@ -27,7 +29,5 @@ mod samples;
 mod tables;
 #[cfg(test)]
 mod texts;
-#[cfg(test)]
-mod told;
 #[cfg(test)]
 mod wording;

@@ -13,49 +13,44 @@ fn fork(left: u16, right: u16) -> Node {
     Node::Fork { left, right }
 }
 
-fn check_node(rt: &impl Abort, table: &Table, c: u16, node: Node, parent: Parent) {
-    assert_eq!(rt; table.node(c), Some(node));
-    assert_eq!(rt; table.parent(c), Some(parent));
-}
-
-// The table has nodes from 1 to `len`, and no other.
-fn check_len(rt: &impl Abort, table: &Table, len: u16) {
-    assert_eq!(rt; table.len(), len);
-    for c in [0, len.saturating_add(1), u16::MAX] {
+// The table has these nodes, numbered from 1, and no other.
+fn check_nodes(rt: &impl Abort, table: &Table, nodes: &[(Node, Parent)]) {
+    assert_eq!(rt; usize::from(table.len()), nodes.len());
+    for (c, (node, parent)) in (1..=table.len()).zip(nodes) {
+        assert_eq!(rt; table.node(c), Some(*node));
+        assert_eq!(rt; table.parent(c), Some(*parent));
+    }
+    for c in [0, table.len().saturating_add(1), u16::MAX] {
         assert_eq!(rt; table.node(c), None);
         assert_eq!(rt; table.parent(c), None);
     }
 }
 
-fn check_pair(rt: &impl Abort, table: &Table) {
-    check_len(rt, table, 3);
-    check_node(rt, table, 1, leaf(0, 1), Parent::LeftOf(3));
-    check_node(rt, table, 2, leaf(1, 1), Parent::RightOf(3));
-    check_node(rt, table, 3, fork(1, 2), Parent::Root);
-}
-
-fn check_left_grouped(rt: &impl Abort, table: &Table) {
-    check_len(rt, table, 5);
-    check_node(rt, table, 1, leaf(0, 1), Parent::LeftOf(4));
-    check_node(rt, table, 2, leaf(1, 1), Parent::RightOf(4));
-    check_node(rt, table, 3, leaf(2, 1), Parent::RightOf(5));
-    check_node(rt, table, 4, fork(1, 2), Parent::LeftOf(5));
-    check_node(rt, table, 5, fork(4, 3), Parent::Root);
-}
-
 // A shorter job replaces a longer one, and a longer one a shorter.
 #[test]
 fn loading_replaces(rt: HostRuntime) -> Result<(), Fail> {
+    let pair = [
+        (leaf(0, 1), Parent::LeftOf(3)),
+        (leaf(1, 1), Parent::RightOf(3)),
+        (fork(1, 2), Parent::Root),
+    ];
+    let left_grouped = [
+        (leaf(0, 1), Parent::LeftOf(4)),
+        (leaf(1, 1), Parent::RightOf(4)),
+        (leaf(2, 1), Parent::RightOf(5)),
+        (fork(1, 2), Parent::LeftOf(5)),
+        (fork(4, 3), Parent::Root),
+    ];
     let mut table = Table::new(rt.alloc())?;
-    check_len(&rt, &table, 0);
+    check_nodes(&rt, &table, &[]);
     table.load(LEFT_GROUPED)?;
-    check_left_grouped(&rt, &table);
+    check_nodes(&rt, &table, &left_grouped);
     table.load(PAIR)?;
-    check_pair(&rt, &table);
+    check_nodes(&rt, &table, &pair);
     table.load(LEFT_GROUPED)?;
-    check_left_grouped(&rt, &table);
+    check_nodes(&rt, &table, &left_grouped);
     table.load(LEFT_GROUPED)?;
-    check_left_grouped(&rt, &table);
+    check_nodes(&rt, &table, &left_grouped);
     Ok(())
 }
 
@@ -64,22 +59,24 @@ fn loading_replaces(rt: HostRuntime) -> Result<(), Fail> {
 fn the_chain_numbers_the_nodes(rt: HostRuntime) -> Result<(), Fail> {
     let mut table = Table::new(rt.alloc())?;
     table.load(LOPSIDED)?;
-    check_len(&rt, &table, 15);
-    check_node(&rt, &table, 1, leaf(19, 2), Parent::RightOf(15));
-    check_node(&rt, &table, 2, leaf(4, 4), Parent::RightOf(7));
-    check_node(&rt, &table, 3, leaf(3, 1), Parent::RightOf(5));
-    check_node(&rt, &table, 4, leaf(0, 3), Parent::LeftOf(5));
-    check_node(&rt, &table, 5, fork(4, 3), Parent::LeftOf(7));
-    check_node(&rt, &table, 6, leaf(16, 3), Parent::RightOf(14));
-    check_node(&rt, &table, 7, fork(5, 2), Parent::LeftOf(10));
-    check_node(&rt, &table, 8, leaf(10, 5), Parent::RightOf(11));
-    check_node(&rt, &table, 9, leaf(8, 2), Parent::RightOf(10));
-    check_node(&rt, &table, 10, fork(7, 9), Parent::LeftOf(11));
-    check_node(&rt, &table, 11, fork(10, 8), Parent::LeftOf(13));
-    check_node(&rt, &table, 12, leaf(15, 1), Parent::RightOf(13));
-    check_node(&rt, &table, 13, fork(11, 12), Parent::LeftOf(14));
-    check_node(&rt, &table, 14, fork(13, 6), Parent::LeftOf(15));
-    check_node(&rt, &table, 15, fork(14, 1), Parent::Root);
+    let nodes = [
+        (leaf(19, 2), Parent::RightOf(15)),
+        (leaf(4, 4), Parent::RightOf(7)),
+        (leaf(3, 1), Parent::RightOf(5)),
+        (leaf(0, 3), Parent::LeftOf(5)),
+        (fork(4, 3), Parent::LeftOf(7)),
+        (leaf(16, 3), Parent::RightOf(14)),
+        (fork(5, 2), Parent::LeftOf(10)),
+        (leaf(10, 5), Parent::RightOf(11)),
+        (leaf(8, 2), Parent::RightOf(10)),
+        (fork(7, 9), Parent::LeftOf(11)),
+        (fork(10, 8), Parent::LeftOf(13)),
+        (leaf(15, 1), Parent::RightOf(13)),
+        (fork(11, 12), Parent::LeftOf(14)),
+        (fork(13, 6), Parent::LeftOf(15)),
+        (fork(14, 1), Parent::Root),
+    ];
+    check_nodes(&rt, &table, &nodes);
     Ok(())
 }
 
@@ -98,8 +95,7 @@ fn lone_leaves(rt: HostRuntime) -> Result<(), Fail> {
     let mut table = Table::new(rt.alloc())?;
     for ([a, b, c, d, e, f], first, count) in LEAVES {
         table.load(&[0, 1, 0, 1, 1, 0, 0, 0, a, b, c, d, e, f, 0, 0])?;
-        check_len(&rt, &table, 1);
-        check_node(&rt, &table, 1, leaf(first, count), Parent::Root);
+        check_nodes(&rt, &table, &[(leaf(first, count), Parent::Root)]);
     }
     Ok(())
 }
@@ -114,7 +110,6 @@ const AMID: &[u8] = b"\0\x03\0\x02\
 fn records_off_the_chain(rt: HostRuntime) -> Result<(), Fail> {
     let mut table = Table::new(rt.alloc())?;
     table.load(AMID)?;
-    check_len(&rt, &table, 1);
-    check_node(&rt, &table, 1, leaf(5, 2), Parent::Root);
+    check_nodes(&rt, &table, &[(leaf(5, 2), Parent::Root)]);
     Ok(())
 }

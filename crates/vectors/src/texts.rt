@@ -3,9 +3,7 @@ use algebra::Fault;
 use figures::{Figures, Sums};
 use frame::Cause;
 use layout::LoadRefusal;
-use render::{Counted, Text};
-use std::alloc::Global;
-use std::process::Abort;
+use render::Counted;
 use std::test::Fail;
 
 // Numbers and the text that Rust's own `{}` writes of them.
@@ -29,7 +27,7 @@ const FLOATS: [(f32, f32, &str); 5] = [
 fn floats(rt: HostRuntime) -> Result<(), Fail> {
     for (sum, squares, text) in FLOATS {
         let sums = Sums { sum, squares };
-        assert_eq!(rt; Text(&sums).to_string(rt.alloc())?.as_str(), text);
+        assert_eq!(rt; sums.to_string(rt.alloc())?.as_str(), text);
     }
     Ok(())
 }
@@ -60,36 +58,44 @@ fn figures(rt: HostRuntime) -> Result<(), Fail> {
         lowest_slip: -3,
         highest_slip: 5,
     };
-    let text = Text(&ride).to_string(rt.alloc())?;
+    let text = ride.to_string(rt.alloc())?;
     assert_eq!(rt; text.as_str(), "count 2 sum 12 fastest 7 slip -3 to 5");
     Ok(())
 }
 
-fn check_fault(rt: &impl Abort, heap: Global, fault: Fault, text: &str) -> Result<(), Fail> {
-    assert_eq!(rt; Text(&fault).to_string(heap)?.as_str(), text);
-    Ok(())
-}
+// Each kind of fault and its line.
+const FAULTS: [(Fault, &str); 3] = [
+    (
+        Fault::BadFrame {
+            cause: Cause { number: 2 },
+            node: 1,
+            frame: 0,
+        },
+        "fault layer 1 cause 2 node 1 frame 0",
+    ),
+    (
+        Fault::LeafJoin {
+            cause: Cause { number: 255 },
+            node: 1023,
+            frame: 4294967295,
+        },
+        "fault layer 2 cause 255 node 1023 frame 4294967295",
+    ),
+    (
+        Fault::ForkJoin {
+            cause: Cause { number: 255 },
+            node: 1023,
+        },
+        "fault layer 2 cause 255 node 1023",
+    ),
+];
 
 #[test]
 fn faults(rt: HostRuntime) -> Result<(), Fail> {
-    let (cause, node, frame) = (Cause::WRONG_CHECK, 1, 0);
-    let fault = Fault::BadFrame { cause, node, frame };
-    check_fault(
-        &rt,
-        rt.alloc(),
-        fault,
-        "fault layer 1 cause 2 node 1 frame 0",
-    )?;
-    let (cause, node, frame) = (Cause { number: 255 }, 1023, 4294967295);
-    let fault = Fault::LeafJoin { cause, node, frame };
-    check_fault(
-        &rt,
-        rt.alloc(),
-        fault,
-        "fault layer 2 cause 255 node 1023 frame 4294967295",
-    )?;
-    let fault = Fault::ForkJoin { cause, node };
-    check_fault(&rt, rt.alloc(), fault, "fault layer 2 cause 255 node 1023")
+    for (fault, text) in FAULTS {
+        assert_eq!(rt; fault.to_string(rt.alloc())?.as_str(), text);
+    }
+    Ok(())
 }
 
 // Each refusal and how its line begins; the reason in words follows.
@@ -103,7 +109,7 @@ const REFUSALS: [(LoadRefusal, &str); 4] = [
 #[test]
 fn refusals(rt: HostRuntime) -> Result<(), Fail> {
     for (refusal, begins) in REFUSALS {
-        let text = Text(&refusal).to_string(rt.alloc())?;
+        let text = refusal.to_string(rt.alloc())?;
         assert!(rt; text.as_str().starts_with(begins), "{}", begins);
     }
     Ok(())

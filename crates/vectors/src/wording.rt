@@ -1,5 +1,5 @@
 // What is made of a command line.
-use console::{Command, decimal, parse};
+use console::{Command, Plan, Reckoning, decimal, parse};
 use std::alloc::Global;
 use std::test::Fail;
 
@@ -41,13 +41,11 @@ fn owned(heap: Global, words: &[&str]) -> Result<Vec<String>, Fail> {
 fn mistakes(rt: HostRuntime) -> Result<(), Fail> {
     for (words, begins) in MISTAKES {
         let words = owned(rt.alloc(), words)?;
-        match parse(&words) {
-            Ok(_) => return Err(Fail::new("taken for a command")),
-            Err(error) => {
-                let text = error.to_string(rt.alloc())?;
-                assert!(rt; text.as_str().starts_with(begins), "{}", begins);
-            }
-        }
+        let Err(error) = parse(&words) else {
+            return Err(Fail::new("taken for a command"));
+        };
+        let text = error.to_string(rt.alloc())?;
+        assert!(rt; text.as_str().starts_with(begins), "{}", begins);
     }
     Ok(())
 }
@@ -58,22 +56,16 @@ fn a_start(rt: HostRuntime) -> Result<(), Fail> {
         rt.alloc(),
         &["evaluate", "a.job", "b.trace", "float", "007"],
     )?;
-    match parse(&words) {
-        Ok(
-            Command::Evaluate {
-                job,
-                trace,
-                start,
-                ..
-            },
-        ) => {
-            assert_eq!(rt; job, "a.job");
-            assert_eq!(rt; trace, "b.trace");
-            assert_eq!(rt; start, Some(7));
-            Ok(())
-        }
-        _ => Err(Fail::new("not an evaluation by float")),
-    }
+    let evaluation = Command::Evaluate {
+        job: "a.job",
+        trace: "b.trace",
+        plan: Plan {
+            reckoning: Reckoning::Float,
+            start: Some(7),
+        },
+    };
+    assert_eq!(rt; parse(&words), Ok(evaluation));
+    Ok(())
 }
 
 #[test]

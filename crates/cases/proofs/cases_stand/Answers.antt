@@ -1,5 +1,5 @@
 use Rattle.cases.proofs.Hand.{by_hand}
 use Rattle.cases.proofs.cases_stand.Goals as goal
 
-pub returns : goal.returns
-returns c = record { stand = by_hand; many = c.listed.ensures }
+pub returns-clause-stand : goal.returns-clause-stand
+returns-clause-stand c = by_hand

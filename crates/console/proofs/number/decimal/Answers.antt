@@ -1,9 +1,6 @@
-use Rattle.std.proofs.Common.{◌∙◌, lit<}
-use Rattle.std.proofs.lemmas.Str.Pattern.{starts_char}
-use Rattle.std.proofs.lemmas.Bool.{both_ways}
-use Rattle.console.proofs.Words.{parsed-decimal}
+use Rattle.std.proofs.Common.{rules}
+use Rattle.std.proofs.lemmas.Str.Parse.{parse_plain, numerals_by_value, tells_all_ascii_digits}
 use Rattle.console.proofs.number.decimal.Goals as goal
 
 pub returns : goal.returns
-returns c =
-    c.ok.ensures.value ∙ parsed-decimal c.args.text.now c.parse.result c.parse.ensures.value.0 (λ e. both_ways _ c.if-starts_with.false ((starts_char 43 c.args.text.now _ c.starts_with.ensures.cases (lit< tt) (lit< tt)).1 e))
+returns c = search (rules, parse_plain (numerals_by_value _ tells_all_ascii_digits) 64 c.args.text.now _ c.parse.ensures.value.0)

@@ -1,17 +1,13 @@
-use Rattle.std.proofs.Common.{vec_items, sym, ap, ◌∙◌, subst, arith}
-use Rattle.job.specs.Tables.{nodes_of}
 use Rattle.job.proofs.Tabled.{table-shape}
-use Rattle.evaluate.specs.Order.{Ordered}
 use Rattle.evaluate.proofs.Orders.{empty-ordered, root-ordered}
 use Rattle.evaluate.proofs.traversal.left_to_right.Goals as goal
-use Rattle.evaluate.proofs.traversal.left_to_right.Goals.{then-root-gt0+in_ok-visit, else-root-gt0}
+use Rattle.evaluate.proofs.traversal.left_to_right.Goals.{in-Some+in_ok-visit, in_default}
 
 pub returns : goal.returns
 returns c =
-    elim c.if-root-gt0.branch [
-      | then-root-gt0+in_ok-visit w ↦
-          subst (λ v. Ordered (nodes_of c.args.table.now) (vec_items v)) (sym w.order-is)
-          (root-ordered (table-shape c.args.table.now) _ c.len-root.ensures (omega (arith, w.if-root-gt0.true)) c.in_ok-order.ensures.items w.in_ok-visit.ensures)
-      | else-root-gt0 w ↦
-          empty-ordered (omega (arith, c.len-root.ensures, w.if-root-gt0.false)) (ap (λ v. vec_items v) w.order-is ∙ c.in_ok-order.ensures.items)
+    elim c.match-root.branch [
+      | in-Some+in_ok-visit w ↦
+          let r = w.in-Some.ensures in
+          rw w.order-is (root-ordered (table-shape c.args.table.now) (rw (r.same, r.last, c.in_ok-order.ensures.items) at w.in_ok-visit.ensures))
+      | in_default w ↦ rw w.order-is (empty-ordered w.in_default.ensures c.in_ok-order.ensures.items)
     ]

@@ -1,26 +1,25 @@
-use Rattle.std.proofs.Common.{◌+◌, sym, ap, ◌∙◌, subst, arith}
-use Rattle.layout.specs.Layout.{short_at}
-use Rattle.layout.proofs.Walks.{Sofar, begun, stopped, ended, room, one_more}
+use Rattle.std.proofs.Common.{arith, rules}
+use Rattle.job.proofs.Walked.{before-first, refused, more, kept}
 use Rattle.job.proofs.walk.follow.Goals as goal
 
 pub loop-link-init : goal.loop-link-init
-loop-link-init c = begun _ _ _ c.short-link.ensures c.if-link-eq0.false
+loop-link-init c = before-first c.args.file.now.sized.counted.1 c.new-order.ensures c.first-link.ensures c.if-is_none.ensures
 
-pub returns-then-not-reach : goal.returns-then-not-reach
-returns-then-not-reach c = sym (stopped c.loop-link.invariant (omega arith) c.loop-link-test.true c.reach.ensures.value c.if-not-reach.true)
+pub returns-in_err-record : goal.returns-in_err-record
+returns-in_err-record c =
+    let e = refused c.loop-link.invariant c.in-Some.is c.reach.ensures.value (search rules) in
+    search rules
 
-pub bounds-indices-len : goal.bounds-indices-len
-bounds-indices-len c =
-    omega (arith, room c.loop-link.invariant (omega arith) c.loop-link-test.true c.reach.ensures.value c.if-not-reach.false)
+pub push-requires : goal.push-requires
+push-requires c =
+    let m = more c.loop-link.invariant c.in-Some.is c.reach.ensures.value {q = c.in_ok-record.record} (search rules) in
+    (omega arith, omega (arith, m, c.args.file.now.sized.counted.1))
 
 pub loop-link-smaller : goal.loop-link-smaller
 loop-link-smaller c =
-    omega (arith, room c.loop-link.invariant (omega arith) c.loop-link-test.true c.reach.ensures.value c.if-not-reach.false)
+    let m = more c.loop-link.invariant c.in-Some.is c.reach.ensures.value {q = c.in_ok-record.record} (search rules) in
+    omega (arith, c.push.ensures.len, m)
 
 pub loop-link-preserved : goal.loop-link-preserved
 loop-link-preserved c =
-    subst (Sofar _ _ _ _ _ _) (sym (c.short-link-in-loop-link.ensures ∙ ap (λ i. short_at c.args.bytes.now (i + 2)) c.record_start.ensures))
-    (one_more c.loop-link.invariant (omega arith) c.loop-link-test.true c.reach.ensures.value c.if-not-reach.false _ c.reach.ensures.marks)
-
-pub returns : goal.returns
-returns c = sym (ended c.loop-link.invariant (omega arith) c.loop-link-test.false)
+    kept c.loop-link.invariant c.in-Some.is c.reach.ensures.value {q = c.in_ok-record.record} (search rules) c.reach.ensures.marks c.push.ensures.items c.next-link.ensures

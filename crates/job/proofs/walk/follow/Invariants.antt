@@ -1,9 +1,10 @@
-use Rattle.std.proofs.Common.{◌-◌}
-use Rattle.layout.proofs.Walks.{Sofar}
+use Rattle.std.proofs.Common.{◌-◌, length}
+use Rattle.layout.specs.Layout.{count}
+use Rattle.job.proofs.Walked.{Before}
 use Rattle.job.proofs.walk.follow.Given as goal
 
 abbrev pub invariant-loop-link : goal.invariant-loop-link
-invariant-loop-link l = Sofar l.bytes l.m l.indices l.reached l.len l.from l.link
+invariant-loop-link l = Before l.file.bytes.now l.order.items l.reached l.from l.link
 
 abbrev pub decreases-loop-link : goal.decreases-loop-link
-decreases-loop-link l = l.m - l.len
+decreases-loop-link l = count l.file.bytes.now - length l.order.items

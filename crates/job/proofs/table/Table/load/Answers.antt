@@ -1,9 +1,15 @@
-use Rattle.std.proofs.Common.{vec_items, rules}
+use Rattle.std.proofs.Common.{rules}
 use Rattle.layout.proofs.Exact.{exact-from, refused-from}
 use Rattle.job.proofs.table.Table.load.Goals as goal
 
-pub returns-clause-refused : goal.returns-clause-refused
-returns-clause-refused c = refused-from c.args.bytes.now c.refill.result (search rules)
+pub returns-then-is_err-clause-refused : goal.returns-then-is_err-clause-refused
+returns-then-is_err-clause-refused c = refused-from _ _ (search rules)
 
-pub returns-clause-exact : goal.returns-clause-exact
-returns-clause-exact c = exact-from c.args.bytes.now c.refill.result (vec_items c.refill.new.nodes) (search rules) (search rules)
+pub returns-then-is_err-clause-exact : goal.returns-then-is_err-clause-exact
+returns-then-is_err-clause-exact c = exact-from _ _ _ (search rules) (search rules)
+
+pub returns-else-is_err-clause-refused : goal.returns-else-is_err-clause-refused
+returns-else-is_err-clause-refused c = refused-from _ _ (search rules)
+
+pub returns-else-is_err-clause-exact : goal.returns-else-is_err-clause-exact
+returns-else-is_err-clause-exact c = exact-from _ _ _ (search rules) (search rules)

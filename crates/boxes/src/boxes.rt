@@ -1,6 +1,7 @@
 // A pool of records with a chain for each receiver, newest first, kept in good order.
 mod calls;
 mod pool;
+mod records;
 
 ghost use Rattle.std.specs.Prelude.{◌≡◌, ℕ, ◌+◌, ◌≤◌, length};
 ghost use Rattle.std.specs.List.{AllPass};

@@ -87,6 +87,7 @@ impl Mail for Line {
     }
 
     // The oldest such message; the others keep their order.
+    #[inline]
     fn take(&mut self, receiver: u8, class: u8) -> Result<Option<Message>, MailRefusal>
         ensures effect { Taken line_meaning self.old self.new result }
         ensures oldest { result ≡ take_answer (askable receiver class) (first (wanted receiver class) (row self.old)) }

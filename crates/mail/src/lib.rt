@@ -9,6 +9,6 @@ mod returned;
 
 pub use asked::Asked;
 pub use mail::Mail;
-pub use message::{Class, Message, PROCESSORS};
+pub use message::{BLANK, Class, Message, PROCESSORS};
 pub use refusal::MailRefusal;
 pub use returned::post_and_take_back;

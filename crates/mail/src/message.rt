@@ -49,6 +49,14 @@ pub struct Message {
     pub node: u16,
 }
 
+// The default message, where a constant needs one: it is for nobody.
+pub const BLANK: Message = Message {
+    receiver: 0,
+    sender: 0,
+    class: Class::Request,
+    node: 0,
+};
+
 impl Message {
     // The message of these numbers, refused if one is out of range.
     pub fn new(receiver: u8, sender: u8, class: u8, node: u16) -> Result<Message, MailRefusal>

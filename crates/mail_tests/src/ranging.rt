@@ -3,8 +3,8 @@ use crate::steps::{Step, empty, fill, play};
 use boxes::Boxes;
 use bridge::Bridge;
 use line::Line;
-use mail::Mail;
 use mail::MailRefusal::{Full, OutOfRange};
+use mail::{BLANK, Class, Mail, Message};
 use std::process::Abort;
 
 const OUTSIDE: [Step; 14] = [
@@ -66,4 +66,17 @@ fn every_mail_refuses_outside(rt: HostRuntime) {
 fn refusals_have_their_numbers(rt: HostRuntime) {
     assert_eq!(rt; Full.number(), 17);
     assert_eq!(rt; OutOfRange.number(), 18);
+}
+
+// A request of nobody to nobody, with node 0.
+#[test]
+fn the_default_message_is_blank(rt: HostRuntime) {
+    let blank = Message {
+        receiver: 0,
+        sender: 0,
+        class: Class::Request,
+        node: 0,
+    };
+    assert_eq!(rt; BLANK, blank);
+    assert_eq!(rt; Message::default(), blank);
 }

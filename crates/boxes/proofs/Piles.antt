@@ -1,5 +1,5 @@
 -- All boxes together.
-use Rattle.std.proofs.Common.{◌≡◌, ℕ, suc, ◌+◌, ◌<◌, ◌≤◌, false, cond, List, [], ◌∷◌, filter_map, length, Option, Some, None, ◌==◌, ◌≢◌, refl, sym, subst, ◌∙◌, ⊎_elim, arith}
+use Rattle.std.proofs.Common.{◌≡◌, ℕ, suc, ◌+◌, ◌<◌, ◌≤◌, false, cond, List, [], ◌∷◌, filter_map, length, Option, Some, None, ◌==◌, ◌≢◌, refl, sym, subst, ap, ◌∙◌, ⊎_elim, arith}
 use Rattle.std.specs.List.{AllByRecursion, cons_option}
 use Rattle.std.proofs.ByRecursion.{All-weaker}
 use Rattle.std.proofs.lemmas.Bool.{cases_eq, and_left, eq-eqb, ne_eqb, cond-true, cond-false}
@@ -33,7 +33,22 @@ run-mine : (to : ℕ → Option ℕ) (of : ℕ → Option Message) (r : ℕ) (xs
 run-mine to of r [] link l run = (tt, refl)
 run-mine to of r (x ∷ xs) link l run = mine (of x) (filter_map of xs) r (length xs) l run.2 (run-mine to of r xs (to x) l run.3)
 
+-- what holds of each message in the records of r holds of those in a run of r
+one-held : (P : Message → Type 0) (o : Option Message) (ms : List Message) → ((m : Message) → o ≡ Some m → P m) → AllByRecursion P ms → AllByRecursion P (cons_option o ms)
+one-held P None ms h rest = rest
+one-held P (Some m) ms h rest = (h m refl, rest)
+
+run-held : (P : Message → Type 0) (to : ℕ → Option ℕ) (of : ℕ → Option Message) (r : ℕ) → ((i : ℕ) (m : Message) → of i ≡ Some m → m.receiver ≡ r → P m)
+    → (xs : List ℕ) (link : Option ℕ) → Run to (λ i. receiver_of (of i)) r link xs → AllByRecursion P (filter_map of xs)
+run-held P to of r h [] link run = tt
+run-held P to of r h (x ∷ xs) link run =
+    one-held P (of x) (filter_map of xs) (λ m e. h x m e (ap receiver_of (sym e) ∙ run.2)) (run-held P to of r h xs (to x) run.3)
+
 module _ (s : Boxes) where
+  -- what holds of each message for r in any record holds of those in the box of r
+  pub box-all : (P : Message → Type 0) (r : ℕ) → r ≤ 16 → ((i : ℕ) (m : Message) → held s.pool.records i ≡ Some m → m.receiver ≡ r → P m) → AllByRecursion P (box s r)
+  box-all P r u h = run-held P (next s.pool.links) (held s.pool.records) r h (chain_of s.pool r) (next s.pool.links (64 + r)) (box-run s r u)
+
   -- the first in the pile is the first in the box of its receiver
   box-mine : (r : ℕ) → 1 ≤ r → r ≤ 16 → AllByRecursion (λ m. m.receiver ≡ r) (box s r) × (length (box s r) ≡ length (chain_of s.pool r))
   box-mine r l u = run-mine (next s.pool.links) (held s.pool.records) r (chain_of s.pool r) (next s.pool.links (64 + r)) l (box-run s r u)

@@ -24,7 +24,18 @@ pub record Led (to : ℕ → Option ℕ) (of : ℕ → ℕ) (q start cell x : �
   pub lt : x < 64
   pub own : of x ≡ q
 
+-- what two facts hold of each, both hold of each
+pub all_both : (P Q : ℕ → Type 0) (xs : List ℕ) → AllByRecursion P xs → AllByRecursion Q xs → AllByRecursion (λ y. P y × Q y) xs
+all_both P Q [] p q = tt
+all_both P Q (x ∷ xs) p q = ((p.0, q.0), all_both P Q xs p.1 q.1)
+
 module _ (to : ℕ → Option ℕ) (of : ℕ → ℕ) (q : ℕ) where
+  -- the same records from the same link on, along other links that agree there
+  pub run-from : (to' : ℕ → Option ℕ) (of' : ℕ → ℕ) (xs : List ℕ) (link link' : Option ℕ) → link' ≡ link
+      → AllByRecursion (λ y. (to' y ≡ to y) × (of' y ≡ of y)) xs → Run to of q link xs → Run to' of' q link' xs
+  run-from to' of' [] link link' e a r = e ∙ r
+  run-from to' of' (x ∷ xs) link link' e a r = (e ∙ r.0, r.1, a.0.1 ∙ r.2, run-from to' of' xs (to x) (to' x) a.0.0 a.1 r.3)
+
   pub run-kept : (xs : List ℕ) (n : ℕ) (link : Option ℕ) → length xs ≤ n → Run to of q link xs
       → (chain to n link ≡ xs) × (tight to of q n link ≡ true)
   unfolding chain tight

@@ -16,7 +16,7 @@ stacked-same f g zero h = refl
 stacked-same f g (suc n) h = rw (h (suc n) (omega arith) (omega arith), stacked-same f g n (λ r l u. h r l (omega arith)))
 
 -- what holds of each message in each box holds of the pile
-stacked-all : (P : Message → Type 0) (f : ℕ → List Message) (n : ℕ) → ((r : ℕ) → 1 ≤ r → r ≤ n → AllByRecursion P (f r)) → AllByRecursion P (stacked f n)
+pub stacked-all : (P : Message → Type 0) (f : ℕ → List Message) (n : ℕ) → ((r : ℕ) → 1 ≤ r → r ≤ n → AllByRecursion P (f r)) → AllByRecursion P (stacked f n)
 unfolding stacked
 stacked-all P f zero h = tt
 stacked-all P f (suc n) h = All-append P (f (suc n)) (stacked f n) (h (suc n) (omega arith) (omega arith)) (stacked-all P f n (λ r l u. h r l (omega arith)))

@@ -44,11 +44,9 @@ module _ {ns : List Node} {ps : List Parent} (shape : Shape ns ps) where
   within-root d low high = down_to (length ns) d (omega arith) low high
 
 module _ {ns : List Node} {ps : List Parent} (shape : Shape ns ps) where
-  -- the frames of a leaf are some, with numbers of 32 bits
-  pub leaf-ranged : {c first count : ℕ} → Nth ns c (Leaf first count) → (0 < count) × (first + count ≤ 4294967296)
-  leaf-ranged {c} {first} {count} h =
-      let r : Ranged (Leaf first count) = subst Ranged (sym h.is) (All-get_or Ranged ns (c - 1) (Leaf first count) (omega arith) shape.ranged) in
-      (omega (arith, r.0), r.2)
+  -- the frames of a leaf are 1 to 256, with numbers of 32 bits
+  pub leaf-ranged : {c first count : ℕ} → Nth ns c (Leaf first count) → Ranged (Leaf first count)
+  leaf-ranged {c} {first} {count} h = subst Ranged (sym h.is) (All-get_or Ranged ns (c - 1) (Leaf first count) (omega arith) shape.ranged)
 
   -- the sides of a fork are lower nodes
   pub fork-sided : {c l r : ℕ} → Nth ns c (Fork l r) → ((1 ≤ l) × (l < c)) × ((1 ≤ r) × (r < c))

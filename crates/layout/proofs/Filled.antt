@@ -1,5 +1,5 @@
 -- The passes, one after another.
-use Rattle.std.proofs.Common.{◌≡◌, ℕ, ◌+◌, ◌*◌, ◌≤◌, Bool, true, false, cond, leb, List, [], length, Ok, Err, Result, refl, ap, ◌∙◌, arith}
+use Rattle.std.proofs.Common.{◌≡◌, ℕ, ◌+◌, ◌*◌, ◌≤◌, Bool, true, false, cond, leb, List, [], length, IfOk, Ok, Err, Result, sym, refl, ap, ◌∙◌, arith}
 use Rattle.std.proofs.lemmas.Bool.{eq-eqb, eqb-true, leb-true, le-leb, cond-true, false≢true}
 use Rattle.layout.specs.declared.node.Node.{Node}
 use Rattle.layout.specs.declared.refusal.LoadRefusal.{LoadRefusal}
@@ -8,6 +8,10 @@ use Rattle.layout.specs.Layout.{count, sized, header}
 use Rattle.layout.specs.Chain.{chain}
 use Rattle.layout.specs.Records.{records}
 use Rattle.layout.specs.Follows.{WellSized}
+use Rattle.layout.specs.Loaded.{loaded}
+use Rattle.layout.specs.Naming.{parents}
+use Rattle.layout.specs.Steps.{map_ok, and_then}
+use Rattle.layout.specs.declared.node.Parent.{Parent}
 use Rattle.layout.proofs.Chains.{chain-short}
 use Rattle.layout.proofs.Contained.{all_read}
 use Rattle.layout.proofs.Steps.{same_ok, same-err, clash}
@@ -53,3 +57,12 @@ few b m xs ns head link read =
     let h = header-found b m head in
     let r = all_read b [] xs ns read in
     omega (arith, h.0, h.1.counted.1, r.long, ap length r.joined, chain-short b m xs link)
+
+-- and then what is loaded hangs on the naming alone
+pub passed-loaded : (b : List ℕ) (m : ℕ) (xs : List ℕ) (ns : List Node) → header b ≡ Ok m → chain b m ≡ Ok xs → records b [] xs ≡ Ok ns → loaded b ≡ and_then (parents ns) (λ _. Ok ns)
+passed-loaded b m xs ns head link read = rw (head, link, read) refl
+
+-- what follows from the parents holds where the naming succeeds
+pub kept : (ns : List Node) (P : Type 0) (ps : List Parent) (r : Result Unit LoadRefusal) → map_ok (λ _. ps) r ≡ parents ns → (parents ns ≡ Ok ps → P) → IfOk r (λ _. P)
+kept ns P ps (Ok u) h k = k (sym h)
+kept ns P ps (Err e) h k = tt

@@ -1,5 +1,5 @@
 -- One pass after another: what an answer says of the passes.
-use Rattle.std.proofs.Common.{◌≡◌, ◌⊎◌, Ok, Err, Result, refl, ap, inl, inr}
+use Rattle.std.proofs.Common.{◌≡◌, ◌⊎◌, IsErrAnd, Ok, Err, Result, sym, refl, ap, ◌∙◌, inl, inr}
 use Rattle.layout.specs.Steps.{map_ok, and_then}
 
 module _ {X E : Type 0} where
@@ -30,3 +30,8 @@ module _ {X Y E : Type 0} where
   pub map-err : (f : X → Y) (r : Result X E) (e : E) → map_ok f r ≡ Err e → r ≡ Err e
   map-err f (Ok x) e h = absurd (clash refl h)
   map-err f (Err d) e h = ap Err (same-err refl h)
+
+  -- the exit of a `?`: the callee's refusal is returned
+  pub exit : (f : X → Y) (r : Result X E) (e : E) {s : Result Y E} → IsErrAnd r (λ y. y ≡ e) → s ≡ Err e → map_ok f r ≡ s
+  exit f (Ok x) e h k = absurd h
+  exit f (Err y) e h k = ap Err h ∙ sym k

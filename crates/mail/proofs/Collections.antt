@@ -87,7 +87,7 @@ pub tallied-length : (xs ys : List Message) → Tallied xs ys → length xs ≡ 
 tallied-length xs ys tallied = sym (length-tally xs) ∙ tallied (λ _. true) ∙ length-tally ys
 
 -- a message that stands in a list, and the list without it
-times-one : (m : Message) (xs ys : List Message) → Tallied xs (m ∷ ys) → 1 ≤ times m xs
+pub times-one : (m : Message) (xs ys : List Message) → Tallied xs (m ∷ ys) → 1 ≤ times m xs
 times-one m xs ys tallied = grind (arith, tallied (alike m), alike-itself m, tally-cons (alike m) m ys)
 
 tallied-found-as : (m : Message) (xs : List Message) → 1 ≤ times m xs → (found : Option Message) → first (alike m) xs ≡ found → Tallied xs (m ∷ without (alike m) xs)
@@ -97,7 +97,7 @@ tallied-found-as m xs one (Some x) e =
     let it : m ≡ x = alike_same m x found.0 in
     λ test. grind (arith, found.1 test, it)
 
-tallied-without : (m : Message) (xs : List Message) → 1 ≤ times m xs → Tallied xs (m ∷ without (alike m) xs)
+pub tallied-without : (m : Message) (xs : List Message) → 1 ≤ times m xs → Tallied xs (m ∷ without (alike m) xs)
 tallied-without m xs one = tallied-found-as m xs one (first (alike m) xs) refl
 
 -- one message less, said by tallies
@@ -125,7 +125,7 @@ tallied-removed m before after tallied =
     )
 
 -- to take the first that passes is to take the first like it
-without-first : (test : Message → Bool) (xs : List Message) (m : Message) → first test xs ≡ Some m → without test xs ≡ without (alike m) xs
+pub without-first : (test : Message → Bool) (xs : List Message) (m : Message) → first test xs ≡ Some m → without test xs ≡ without (alike m) xs
 without-first test [] m h = refl
 without-first test (x ∷ xs) m h = ⊎_elim
     (λ (t : test x ≡ true). let same : x ≡ m = grind (arith, h, t) in grind (arith, t, same, alike-itself m))

@@ -8,7 +8,8 @@ use Rattle.layout.specs.Shape.{nth}
 use Rattle.layout.specs.declared.node.Node.{Node}
 use Rattle.render.specs.Report.{line_of, lines_text}
 
-appends_then : (a b d : List ℕ) (o p : Option (List ℕ)) → AppendsText a b o → AppendsText b d p → AppendsText a d (o ++? p)
+-- one text after another
+pub appends_then : (a b d : List ℕ) (o p : Option (List ℕ)) → AppendsText a b o → AppendsText b d p → AppendsText a d (o ++? p)
 appends_then a b d None p x y = tt
 appends_then a b d (Some s) None x y = tt
 appends_then a b d (Some s) (Some t) x y = rw (y, x) (append_assoc a s t)

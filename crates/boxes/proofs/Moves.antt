@@ -4,7 +4,8 @@ use Rattle.std.specs.List.{AllByRecursion}
 use Rattle.std.proofs.lemmas.List.{length-set, get_or-set_same, get_or-set_other}
 use Rattle.boxes.specs.Chains.{next}
 use Rattle.boxes.specs.Inner.{relinked}
-use Rattle.boxes.proofs.Runs.{Run, Led, ends, run-all}
+use Rattle.std.proofs.ByRecursion.{All-weaker}
+use Rattle.boxes.proofs.Runs.{Run, Led, ends, run-all, run-from, all_both}
 
 -- the record x goes from behind `cell` to the front of chain b, and then belongs to b
 pub record Relinked (to to' : ℕ → Option ℕ) (of of' : ℕ → ℕ) (cell x b : ℕ) : Type 0 where
@@ -22,6 +23,25 @@ all-ends P f (g ∷ front) rest h = all-ends P g front rest h.1
 all-mid : (P : ℕ → Type 0) (front back : List ℕ) (x : ℕ) → AllByRecursion P (front ++ x ∷ back) → P x
 all-mid P [] back x h = h.0
 all-mid P (f ∷ front) back x h = all-mid P front back x h.1
+
+-- a record that goes behind any place of a run
+pub put : (to to' : ℕ → Option ℕ) (of of' : ℕ → ℕ) (b head x : ℕ) → x < 64 → to' head ≡ Some x → to' x ≡ to head → of' x ≡ b
+    → (front back : List ℕ) (start : ℕ) → head ≡ ends start front → ((start ≢ head) → to' start ≡ to start)
+    → AllByRecursion (λ y. ((y ≢ head) → to' y ≡ to y) × (of' y ≡ of y)) (front ++ back)
+    → Run to of b (to start) (front ++ back) → Run to' of' b (to' start) (front ++ x ∷ back)
+put to to' of of' b head x lt at_head at_record owned [] back start here off all run =
+    let both = all_both _ _ back all (run-all to of b back start run) in
+    let agree : AllByRecursion (λ y. (to' y ≡ to y) × (of' y ≡ of y)) back =
+    All-weaker _ (λ y. (to' y ≡ to y) × (of' y ≡ of y)) (λ y h. (h.0.0 (λ e. h.1.0 (e ∙ here)), h.0.1)) back both in
+    (ap to' (sym here) ∙ at_head, lt, owned, run-from to of b to' of' back (to start) (to' x) (at_record ∙ ap to here) agree run)
+put to to' of of' b head x lt at_head at_record owned (f ∷ front) back start here off all run =
+    let fresh = run-all to of b (f ∷ (front ++ back)) start run in
+    let P : ℕ → Type 0 = λ y. (y ≢ start) × (y < 64) × (of y ≡ b) in (
+      off (λ e. (all-ends P f front back fresh).0 (sym (e ∙ here))) ∙ run.0,
+      run.1,
+      all.0.1 ∙ run.2,
+      put to to' of of' b head x lt at_head at_record owned front back f here all.0.0 all.1 run.3,
+    )
 
 module _ (to to' : ℕ → Option ℕ) (of of' : ℕ → ℕ) (a b cell x : ℕ) (m : Relinked to to' of of' cell x b) (apart : a ≡ b → ⊥)
     (led : Led to of a (64 + a) cell x) where
